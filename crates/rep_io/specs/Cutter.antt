@@ -1,0 +1,68 @@
+-- What a cutter of lines has of its source, and what each of its calls gives of the text that is unread.
+use Rattle.std.specs.Prelude.{◌≡◌, ◌≢◌, ℕ, ◌+◌, ◌-◌, ◌<◌, ◌≤◌, Bool, true, false, List, [], ◌∷◌, ◌++◌, length, take, All, Some, Option}
+use Rattle.std.specs.Io.KnownBytes.{prepend_known}
+use Rattle.rep_io.specs.Lines.{Run, run_text, runs_of, line_of, has_return, line_feed, longest_line, longest_text}
+
+-- a cutter of lines between two calls
+pub record Cutter (S : Type 0) : Type 0 where
+  -- what its bytes come from
+  pub source : S
+  -- how many bytes it has taken from there
+  pub taken : ℕ
+  -- how many bytes of the line under way it has passed over, since that line is too long to be kept
+  pub passed : ℕ
+  -- the bytes taken behind those, which no call has given yet
+  pub held : List ℕ
+  -- whether the source has ended
+  pub ended : Bool
+
+-- a cutter that has taken nothing yet
+abbrev pub fresh : {S : Type 0} → S → Cutter S
+fresh source = record { source = source; taken = 0; passed = 0; held = []; ended = false }
+
+-- the place in the whole text where the line under way begins
+abbrev pub line_start : {S : Type 0} → Cutter S → ℕ
+line_start c = c.taken - (c.passed + length c.held)
+
+-- how many bytes of the text may be taken from there on
+abbrev pub room_of : {S : Type 0} → Cutter S → ℕ
+room_of c = longest_text - line_start c
+
+abbrev pub HasNoLineFeed : List ℕ → Type 0
+HasNoLineFeed bytes = All (λ b. b ≢ line_feed) bytes
+
+-- The text from the line under way on, where the source tells it. Bytes that were passed over are any that hold
+-- no line feed: they don't matter any more.
+abbrev pub IsUnread : {S : Type 0} → (S → Option (List ℕ)) → Cutter S → List ℕ → Type 0
+IsUnread left c text =
+    (passed : List ℕ) × (rest : List ℕ) × (length passed ≡ c.passed) × HasNoLineFeed passed
+    × (prepend_known c.held (left c.source) ≡ Some rest) × (text ≡ passed ++ rest)
+
+-- Of a text of which so many bytes may be taken, the first run was taken and the rest is unread: the run ends in
+-- that room, at its line feed or with the text.
+pub record TakesRun (room : ℕ) (text : List ℕ) (run : Run) (rest : List ℕ) : Type 0 where
+  pub whole : text ≡ run_text run ++ rest
+  pub first : runs_of text ≡ run ∷ runs_of rest
+  pub in_room : length (run_text run) ≤ room
+  pub last_in_room : run.ended ≡ false → length text ≤ room
+
+-- no line ends in the room that is left, and the text goes on behind it
+pub record GoesOnPast (room : ℕ) (text : List ℕ) : Type 0 where
+  pub longer : room < length text
+  pub no_end : HasNoLineFeed (take room text)
+
+-- the source has ended, and no line is under way
+pub record IsOver {S : Type 0} (c : Cutter S) : Type 0 where
+  pub ended : c.ended ≡ true
+  pub none_held : c.held ≡ []
+  pub none_passed : c.passed ≡ 0
+
+-- one byte more than a text may have was taken, and no line ends before it
+pub record IsAtLimit {S : Type 0} (c : Cutter S) : Type 0 where
+  pub taken : c.taken ≡ longest_text + 1
+  pub no_end : HasNoLineFeed (take (length c.held - 1) c.held)
+
+-- the source gave just the bytes that were taken
+abbrev pub Draws : {S : Type 0} → (S → Option (List ℕ)) → Cutter S → Cutter S → Type 0
+Draws left old new =
+    (bytes : List ℕ) × (new.taken ≡ old.taken + length bytes) × (left old.source ≡ prepend_known bytes (left new.source))
