@@ -1,7 +1,7 @@
 -- What a cutter of lines has of its source, and what each of its calls gives of the text that is unread.
 use Rattle.std.specs.Prelude.{◌≡◌, ◌≢◌, ℕ, ◌+◌, ◌-◌, ◌<◌, ◌≤◌, Bool, true, false, List, [], ◌∷◌, ◌++◌, length, take, All, Some, Option}
-use Rattle.std.specs.Io.KnownBytes.{prepend_known}
-use Rattle.rep_io.specs.Lines.{Run, run_text, runs_of, line_of, has_return, line_feed, longest_line, longest_text}
+use Rattle.std.specs.Io.KnownBytes.{prepend_known, IsAtEnd}
+use Rattle.rep_io.specs.Lines.{Run, run_text, runs_of, line_feed, longest_line, longest_text}
 
 -- a cutter of lines between two calls
 pub record Cutter (S : Type 0) : Type 0 where
@@ -32,7 +32,7 @@ abbrev pub HasNoLineFeed : List ℕ → Type 0
 HasNoLineFeed bytes = All (λ b. b ≢ line_feed) bytes
 
 -- The text from the line under way on, where the source tells it. Bytes that were passed over are any that hold
--- no line feed: they don't matter any more.
+-- no line feed: they are surely too many to matter.
 abbrev pub IsUnread : {S : Type 0} → (S → Option (List ℕ)) → Cutter S → List ℕ → Type 0
 IsUnread left c text =
     (passed : List ℕ) × (rest : List ℕ) × (length passed ≡ c.passed) × HasNoLineFeed passed
@@ -44,7 +44,16 @@ pub record TakesRun (room : ℕ) (text : List ℕ) (run : Run) (rest : List ℕ)
   pub whole : text ≡ run_text run ++ rest
   pub first : runs_of text ≡ run ∷ runs_of rest
   pub in_room : length (run_text run) ≤ room
-  pub last_in_room : run.ended ≡ false → length text ≤ room
+
+-- What holds of each cutter. It passes bytes over only where their line is too long, with and without a carriage
+-- return at its end. It has seen the source end only in the room of a text, and holds the byte past that room.
+pub record IsCutter {S : Type 0} (left : S → Option (List ℕ)) (c : Cutter S) : Type 0 where
+  pub inside : c.passed + length c.held ≤ c.taken
+  pub taken : c.taken ≤ longest_text + 1
+  pub long : 0 < c.passed → longest_line + 1 < c.passed
+  pub at_end : c.ended ≡ true → IsAtEnd (left c.source)
+  pub end_in_room : c.ended ≡ true → c.taken ≤ longest_text
+  pub past : longest_text < c.taken → 0 < length c.held
 
 -- no line ends in the room that is left, and the text goes on behind it
 pub record GoesOnPast (room : ℕ) (text : List ℕ) : Type 0 where
@@ -60,6 +69,7 @@ pub record IsOver {S : Type 0} (c : Cutter S) : Type 0 where
 -- one byte more than a text may have was taken, and no line ends before it
 pub record IsAtLimit {S : Type 0} (c : Cutter S) : Type 0 where
   pub taken : c.taken ≡ longest_text + 1
+  pub under_way : 0 < c.passed + length c.held
   pub no_end : HasNoLineFeed (take (length c.held - 1) c.held)
 
 -- the source gave just the bytes that were taken

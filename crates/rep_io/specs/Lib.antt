@@ -2,3 +2,12 @@ pub mod Causes
 pub mod Streams
 pub mod Lines
 pub mod Cutter
+pub mod Piece
+pub mod Window
+pub mod Next
+pub mod Steps
+pub mod Transfer
+pub mod Calls
+pub mod MemClock
+pub mod MemSink
+pub mod MemSource

@@ -7,3 +7,13 @@ pub trait Gate {
     /// The lane has written its reply to the line.
     fn answered(&self, lane: u32, line: u64);
 }
+
+/// The gate that does nothing.
+#[derive(Clone, Copy, Debug)]
+pub struct OpenGate;
+
+impl Gate for OpenGate {
+    fn arrive(&self, _lane: u32, _line: u64) {}
+
+    fn answered(&self, _lane: u32, _line: u64) {}
+}

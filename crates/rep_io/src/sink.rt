@@ -24,6 +24,6 @@ pub trait Sink {
         ensures cause { HasCause (faults self.old) (faults self.new) result };
 }
 
-/// A sink failed before it had taken a whole piece.
+/// A sink failed while a piece was being written.
 #[derive(Clone, Copy, Debug, PartialEq, Eq)]
 pub struct SinkFault;

@@ -1,0 +1,28 @@
+/// A line that isn't one of a record.
+#[derive(Clone, Copy, Debug, PartialEq, Eq)]
+pub struct BadLine {
+    /// The number of the first field that is off its grammar, counted from 1 in the order of Portaria MTP 671/2021,
+    /// annex V. 0 where the line's type, its tenth byte, isn't 2, 4, 5, 6 or 7, or the line hasn't the length of its
+    /// type.
+    pub field: u8,
+}
+
+/// What a lenient reader passed over in a line. A strict reader passes over nothing.
+#[derive(Clone, Copy, Debug, PartialEq, Eq)]
+pub struct Notes {
+    /// The checksum isn't that of the line.
+    pub crc: bool,
+    /// The seconds of a stamp aren't 00, or its offset is `-0000`.
+    pub stamp: bool,
+    /// The recorder's number isn't all digits.
+    pub rep: bool,
+}
+
+impl Notes {
+    /// Nothing was passed over.
+    pub const NONE: Notes = Notes {
+        crc: false,
+        stamp: false,
+        rep: false,
+    };
+}

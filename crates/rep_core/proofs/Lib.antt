@@ -1,0 +1,10 @@
+pub mod Splits
+pub mod Numbered
+pub mod Workers
+pub mod Lookups
+pub mod Verdicts
+pub mod Lines
+pub mod Payloads
+pub mod Hashes
+pub mod Standing
+pub mod Validity

@@ -1,0 +1,9 @@
+pub mod History
+pub mod Lookup
+pub mod Chained
+pub mod Links
+pub mod Verdict
+pub mod Answered
+pub mod Valid
+pub mod Core
+pub mod Hashes

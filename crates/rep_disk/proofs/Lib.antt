@@ -1,0 +1,5 @@
+pub mod Cells
+pub mod Replay
+pub mod Keeping
+pub mod Log
+pub mod Glue

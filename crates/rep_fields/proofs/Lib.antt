@@ -1,0 +1,11 @@
+pub mod Checks
+pub mod DateLemmas
+pub mod DayTexts
+pub mod Decimals
+pub mod Ids
+pub mod Layouts
+pub mod Numerals
+pub mod Reading
+pub mod StampTexts
+pub mod Texts
+pub mod TimeTexts

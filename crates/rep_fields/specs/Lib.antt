@@ -1,0 +1,9 @@
+pub mod Decoding
+pub mod Digits
+pub mod Latin
+pub mod Calendar
+pub mod Moment
+pub mod Identity
+pub mod Employer
+pub mod Numbers
+pub mod Cells

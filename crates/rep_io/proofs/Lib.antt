@@ -1,0 +1,6 @@
+pub mod WindowLemmas
+pub mod PieceLemmas
+pub mod LineLemmas
+pub mod CutterLemmas
+pub mod TransferLemmas
+pub mod MemSourceLemmas

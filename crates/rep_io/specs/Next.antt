@@ -1,0 +1,36 @@
+-- What a call of `next` says of the unread text: this project's own.
+use Rattle.std.specs.Prelude.{◌≡◌, ℕ, ◌+◌, ◌<◌, ◌≤◌, List, [], length, Option}
+use Rattle.rep_io.specs.Lines.{Run, run_text, line_of, has_return, longest_line}
+use Rattle.rep_io.specs.Cutter.{Cutter, line_start, room_of, IsUnread, TakesRun, GoesOnPast, IsOver}
+use Rattle.rep_io.specs.declared.next.Next.{Next}
+use Rattle.rep_io.specs.declared.next.Next.TheVariants.{Line, TooLong, End, SourceFault, InputLimit}
+
+-- what is told of a run: its line, if that isn't too long, and whether a CR stood before its end; or that it's too long
+abbrev pub Tells : Next → Run → Type 0
+Tells (Line bytes crlf) run = (bytes ≡ line_of run) × (length bytes ≤ longest_line) × (crlf ≡ has_return run)
+Tells TooLong run = longest_line < length (line_of run)
+Tells End run = ⊥
+Tells SourceFault run = ⊥
+Tells InputLimit run = ⊥
+
+-- the first run of the unread text was taken and told, and the next line begins behind it
+pub record TakesLine {S : Type 0} (left : S → Option (List ℕ)) (old new : Cutter S) (next : Next) (text : List ℕ) : Type 0 where
+  pub run : Run
+  pub rest : List ℕ
+  pub takes : TakesRun (room_of old) text run rest
+  pub tells : Tells next run
+  pub unread : IsUnread left new rest
+  pub start : line_start new ≡ line_start old + length (run_text run)
+
+-- no byte of the line under way is lost
+pub record KeepsLine {S : Type 0} (left : S → Option (List ℕ)) (old new : Cutter S) (text : List ℕ) : Type 0 where
+  pub unread : IsUnread left new text
+  pub start : line_start new ≡ line_start old
+
+-- what each answer says of the text that was unread
+abbrev pub Gives : {S : Type 0} → (S → Option (List ℕ)) → Cutter S → Cutter S → Next → List ℕ → Type 0
+Gives left old new (Line bytes crlf) text = TakesLine left old new (Line bytes crlf) text
+Gives left old new TooLong text = TakesLine left old new TooLong text
+Gives left old new End text = (text ≡ []) × IsOver new
+Gives left old new SourceFault text = KeepsLine left old new text
+Gives left old new InputLimit text = GoesOnPast (room_of old) text × KeepsLine left old new text

@@ -1,0 +1,6 @@
+use Rattle.rep_wire.proofs.OrderLemmas.{only_answer}
+use Rattle.rep_wire.proofs.reading.read_line.Goals as goal
+
+pub returns-clause-only : goal.returns-clause-only
+returns-clause-only c =
+    only_answer c.args.head.now c.args.line.now c.order_or_fault.result c.order_or_fault.ensures.found c.order_or_fault.ensures.malformed

@@ -1,0 +1,226 @@
+ghost use Rattle.std.specs.Prelude.{◌≡◌, ◌∷◌, [], codes, IfOk, IfErr};
+ghost use Rattle.std.specs.Option.{option_copied};
+ghost use Rattle.afd_records.specs.Record.{IsCollector};
+ghost use Rattle.rep_wire.specs.Fields.{fields_behind};
+ghost use Rattle.rep_wire.specs.LaneGrammar.{IsLaneHead, MaySend, HasCollector, collector_of};
+ghost use Rattle.rep_wire.specs.Asking.{Asks, IsFault, collector_in};
+
+use rep_fields::{Cpf, Stamp, Text};
+
+use crate::cut::{EmployerFields, WorkerFields, five, next, one, six, two};
+use crate::head::{LaneHead, OPERATOR};
+use crate::letter::Letter;
+use crate::request::Ask;
+use crate::value::{
+    is_employer_kind, read_cno, read_employer_name, read_event_code, read_id, read_op,
+    read_worker_name,
+};
+
+/// The collector that is recorded with the clockings of an operator's lane: another device.
+const OTHER_COLLECTOR: u8 = 5;
+
+/// What is wrong with the fields of a line.
+#[derive(Clone, Copy, Debug)]
+pub enum Fault {
+    /// Their number isn't the letter's.
+    Number,
+    /// The first field that isn't of its kind, counted from 1.
+    Field(u8),
+}
+
+/// Reads the fields behind the second of a line with this letter.
+pub fn read_ask(head: &LaneHead, letter: Letter, fields: Option<&[u8]>) -> Result<Ask, Fault>
+    requires head { IsLaneHead head.now }
+    requires allowed { MaySend head.now letter }
+    ensures asked { IfOk result (Asks letter (fields_behind (option_copied fields.entry))) }
+    ensures collector { IfOk result (HasCollector head.now) }
+    ensures fault { IfErr result (IsFault letter (fields_behind (option_copied fields.entry))) }
+{
+    match letter {
+        Letter::Mark => read_mark(collector(head), fields),
+        Letter::Employer => read_employer(fields),
+        Letter::Worker => read_worker(fields),
+        Letter::Adjust => read_adjustment(fields),
+        Letter::Event => read_event(fields),
+        Letter::Extract => unreachable!(),
+    }
+}
+
+// The collector that is recorded with the lane's clockings.
+fn collector(head: &LaneHead) -> u8
+    ensures { result ≡ collector_of head.now }
+{
+    if head.kind == OPERATOR {
+        OTHER_COLLECTOR
+    } else {
+        head.kind
+    }
+}
+
+// `cpf|0`, or `cpf|1|stamp`.
+fn read_mark(collector: u8, fields: Option<&[u8]>) -> Result<Ask, Fault>
+    requires { IsCollector collector }
+    ensures asked { IfOk result (Asks Letter.Mark (fields_behind (option_copied fields.entry))) }
+    ensures collector { IfOk result (λ ask. collector_in ask ≡ Some collector) }
+    ensures fault { IfErr result (IsFault Letter.Mark (fields_behind (option_copied fields.entry))) }
+{
+    let Some((cpf, rest)) = next(fields) else {
+        return Err(Fault::Number);
+    };
+    let Some((mode, rest)) = next(rest) else {
+        return Err(Fault::Number);
+    };
+    if mode == b"1".as_slice() {
+        let Some(at) = one(rest) else {
+            return Err(Fault::Number);
+        };
+        return read_offline(collector, cpf, at);
+    }
+    if let Some(_) = rest {
+        return Err(Fault::Number);
+    }
+    let Some(cpf) = Cpf::read(cpf) else {
+        return Err(Fault::Field(3));
+    };
+    if mode != b"0".as_slice() {
+        return Err(Fault::Field(4));
+    }
+    Ok(Ask::Mark {
+        cpf,
+        collector,
+        at: None,
+    })
+}
+
+// `cpf|1|stamp`, of which the mode is known.
+fn read_offline(collector: u8, cpf: &[u8], at: &[u8]) -> Result<Ask, Fault>
+    requires { IsCollector collector }
+    ensures asked { IfOk result (Asks Letter.Mark (cpf.now ∷ codes "1" ∷ at.now ∷ [])) }
+    ensures collector { IfOk result (λ ask. collector_in ask ≡ Some collector) }
+    ensures fault { IfErr result (IsFault Letter.Mark (cpf.now ∷ codes "1" ∷ at.now ∷ [])) }
+{
+    let Some(cpf) = Cpf::read(cpf) else {
+        return Err(Fault::Field(3));
+    };
+    let Some(at) = Stamp::read(at) else {
+        return Err(Fault::Field(5));
+    };
+    Ok(Ask::Mark {
+        cpf,
+        collector,
+        at: Some(at),
+    })
+}
+
+// `responsible|kind|id|cno|name|place`.
+fn read_employer(fields: Option<&[u8]>) -> Result<Ask, Fault>
+    ensures asked { IfOk result (Asks Letter.Employer (fields_behind (option_copied fields.entry))) }
+    ensures fault { IfErr result (IsFault Letter.Employer (fields_behind (option_copied fields.entry))) }
+{
+    let Some(EmployerFields {
+        resp,
+        kind,
+        id,
+        cno,
+        name,
+        place,
+    }) = six(fields)
+    else {
+        return Err(Fault::Number);
+    };
+    let Some(resp) = Cpf::read(resp) else {
+        return Err(Fault::Field(3));
+    };
+    if !is_employer_kind(kind) {
+        return Err(Fault::Field(4));
+    }
+    let Some(id) = read_id(kind, id) else {
+        return Err(Fault::Field(5));
+    };
+    let Some(cno) = read_cno(cno) else {
+        return Err(Fault::Field(6));
+    };
+    let Some(name) = read_employer_name(name) else {
+        return Err(Fault::Field(7));
+    };
+    let Some(place) = Text::read(place) else {
+        return Err(Fault::Field(8));
+    };
+    Ok(Ask::Employer {
+        resp,
+        id,
+        cno,
+        name,
+        place,
+    })
+}
+
+// `operation|cpf|name|extra|responsible`.
+fn read_worker(fields: Option<&[u8]>) -> Result<Ask, Fault>
+    ensures asked { IfOk result (Asks Letter.Worker (fields_behind (option_copied fields.entry))) }
+    ensures fault { IfErr result (IsFault Letter.Worker (fields_behind (option_copied fields.entry))) }
+{
+    let Some(WorkerFields {
+        op,
+        cpf,
+        name,
+        extra,
+        resp,
+    }) = five(fields)
+    else {
+        return Err(Fault::Number);
+    };
+    let Some(op) = read_op(op) else {
+        return Err(Fault::Field(3));
+    };
+    let Some(cpf) = Cpf::read(cpf) else {
+        return Err(Fault::Field(4));
+    };
+    let Some(name) = read_worker_name(op, name) else {
+        return Err(Fault::Field(5));
+    };
+    let Some(extra) = Text::read(extra) else {
+        return Err(Fault::Field(6));
+    };
+    let Some(resp) = Cpf::read(resp) else {
+        return Err(Fault::Field(7));
+    };
+    Ok(Ask::Worker {
+        op,
+        cpf,
+        name,
+        extra,
+        resp,
+    })
+}
+
+// `stamp before|responsible`.
+fn read_adjustment(fields: Option<&[u8]>) -> Result<Ask, Fault>
+    ensures asked { IfOk result (Asks Letter.Adjust (fields_behind (option_copied fields.entry))) }
+    ensures fault { IfErr result (IsFault Letter.Adjust (fields_behind (option_copied fields.entry))) }
+{
+    let Some((before, resp)) = two(fields) else {
+        return Err(Fault::Number);
+    };
+    let Some(before) = Stamp::read(before) else {
+        return Err(Fault::Field(3));
+    };
+    let Some(resp) = Cpf::read(resp) else {
+        return Err(Fault::Field(4));
+    };
+    Ok(Ask::Adjust { before, resp })
+}
+
+// `code`.
+fn read_event(fields: Option<&[u8]>) -> Result<Ask, Fault>
+    ensures asked { IfOk result (Asks Letter.Event (fields_behind (option_copied fields.entry))) }
+    ensures fault { IfErr result (IsFault Letter.Event (fields_behind (option_copied fields.entry))) }
+{
+    let Some(code) = one(fields) else {
+        return Err(Fault::Number);
+    };
+    let Some(code) = read_event_code(code) else {
+        return Err(Fault::Field(3));
+    };
+    Ok(Ask::Event { code })
+}
