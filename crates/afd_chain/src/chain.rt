@@ -4,16 +4,11 @@ ghost use Rattle.afd_records.specs.Line.{IsHashText};
 ghost use Rattle.hex.specs.Hex.{encode_lower};
 ghost use Rattle.afd_chain.specs.Chain.{link_text};
 
+use afd_records::{CLOCKING_LEN, HASH_LEN};
 use sha2::{Digest, Sha256};
 
 /// The bytes of a clocking's line that stand before its hash.
 pub const PAYLOAD_LEN: usize = 73;
-
-/// The hexadecimal digits of a hash.
-pub const HASH_LEN: usize = 64;
-
-/// The bytes of a clocking's whole line.
-pub const CLOCKING_LEN: usize = 137;
 
 /// The hash of a clocking: the SHA-256 of its payload, the first 73 bytes of its line, followed by the 64 characters
 /// of the hash of the clocking before. `prev` is `None` for the first clocking. The hash is given in 64 lower-case
@@ -43,7 +38,7 @@ pub fn verify(prev: Option<&[u8; 64]>, line: &[u8]) -> bool
 }
 
 // The digest in lower-case hexadecimal digits.
-fn digits_of(digest: &[u8; 32]) -> [u8; 64]
+pub(crate) fn digits_of(digest: &[u8; 32]) -> [u8; 64]
     ensures value { result ≡ encode_lower digest.now }
     ensures lower { IsHashText result }
 {

@@ -10,5 +10,7 @@
 #![tactic(auto)]
 
 mod chain;
+#[cfg(test)]
+mod tests;
 
-pub use chain::{CLOCKING_LEN, HASH_LEN, PAYLOAD_LEN, link, verify};
+pub use chain::{PAYLOAD_LEN, link, verify};

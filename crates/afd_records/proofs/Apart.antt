@@ -176,8 +176,12 @@ same_record m n (Clocking marked cpf recorded collector offline) (Clocking other
     let offline_text : offline_text offline ≡ offline_text other_offline = cc parts in
     let offline_is : offline ≡ other_offline = same_offline offline other_offline offline_text in
     let hash_text : hash_bytes g ≡ hash_bytes h = cc parts in
-    record { nsr = number; body = cc (marked_is, cpf_is, recorded_is, collector_is, offline_is); hash = same_hash g h marked recorded other_marked other_recorded cpf collector other_cpf other_collector offline
-        other_offline is_a.hashed is_b.hashed hash_text }
+    record {
+      nsr = number;
+      body = cc (marked_is, cpf_is, recorded_is, collector_is, offline_is);
+      hash = same_hash g h marked recorded other_marked other_recorded cpf collector other_cpf other_collector offline
+          other_offline is_a.hashed is_b.hashed hash_text;
+    }
 same_record m n a b g h line is_a is_b =
     let types = same_type m n a b g h line is_a is_b in
     absurd (omega (arith, types))

@@ -51,7 +51,7 @@ crc_bit-xor a b =
             let odd : bit_xor a b % 2 ≡ 1 = rw (even_a, odd_b) at low in
             rw (crc_bit-odd (bit_xor a b) odd, crc_bit-even a even_a, crc_bit-odd b odd_b, half)
             (xor_assoc (a / 2) (b / 2) reflected_polynomial)
-        ]
+      ]
       | inr odd_a ↦ elim (parity b) [
         | inl even_b ↦
             let odd : bit_xor a b % 2 ≡ 1 = rw (odd_a, even_b) at low in
@@ -61,7 +61,7 @@ crc_bit-xor a b =
             let even : bit_xor a b % 2 ≡ 0 = rw (odd_a, odd_b) at low in
             rw (crc_bit-even (bit_xor a b) even, crc_bit-odd a odd_a, crc_bit-odd b odd_b, half)
             (sym (xor_twice (a / 2) (b / 2) reflected_polynomial))
-        ]
+      ]
     ]
 
 crc_bits-xor : (count a b : ℕ) → crc_bits count (bit_xor a b) ≡ bit_xor (crc_bits count a) (crc_bits count b)

@@ -102,19 +102,39 @@ length-hash (Some text) marked recorded cpf collector offline hashed = hashed.si
 pub widths-line_parts : (nsr : ℕ) (body : Body) (hash : Option (List ℕ)) → IsBody body → HasHash body hash
     → widths_of (line_parts nsr body (check_text nsr body (hash_bytes hash))) ≡ map width_of (layout_for body)
 widths-line_parts nsr (Employer at resp id cno name place) hash in_range hashed =
-    rw (length-numeral 9 nsr, length-moment_text at, length-numeral 14 resp, length-numeral 14 (id_number id),
-    length-numeral 14 cno, length-padded 150 name in_range.4.short, length-padded 100 place in_range.5.short) refl
+    rw (
+      length-numeral 9 nsr,
+      length-moment_text at,
+      length-numeral 14 resp,
+      length-numeral 14 (id_number id),
+      length-numeral 14 cno,
+      length-padded 150 name in_range.4.short,
+      length-padded 100 place in_range.5.short,
+    ) refl
 widths-line_parts nsr (Adjust before after resp) hash in_range hashed =
     rw (length-numeral 9 nsr, length-moment_text before, length-moment_text after, length-numeral 11 resp) refl
 widths-line_parts nsr (Worker at op cpf name extra resp) hash in_range hashed =
-    rw (length-numeral 9 nsr, length-moment_text at, length-op_text op, length-numeral 12 cpf,
-    length-padded 52 name in_range.2.short, length-padded 4 extra in_range.3.short, length-numeral 11 resp) refl
+    rw (
+      length-numeral 9 nsr,
+      length-moment_text at,
+      length-op_text op,
+      length-numeral 12 cpf,
+      length-padded 52 name in_range.2.short,
+      length-padded 4 extra in_range.3.short,
+      length-numeral 11 resp,
+    ) refl
 widths-line_parts nsr (Event at code) hash in_range hashed =
     rw (length-numeral 9 nsr, length-moment_text at, length-numeral 2 code) refl
 widths-line_parts nsr (Clocking marked cpf recorded collector offline) hash in_range hashed =
-    rw (length-numeral 9 nsr, length-moment_text marked, length-numeral 12 cpf, length-moment_text recorded,
-    length-numeral 2 collector, length-offline_text offline,
-    length-hash hash marked recorded cpf collector offline hashed) refl
+    rw (
+      length-numeral 9 nsr,
+      length-moment_text marked,
+      length-numeral 12 cpf,
+      length-moment_text recorded,
+      length-numeral 2 collector,
+      length-offline_text offline,
+      length-hash hash marked recorded cpf collector offline hashed,
+    ) refl
 
 -- the fields that the layout cuts out of a record's line
 pub cuts-line : (nsr : ℕ) (body : Body) (hash : Option (List ℕ)) (line : List ℕ) → IsLineOf nsr body hash line
@@ -173,7 +193,7 @@ event_cut nsr at code line size parts =
 pub clocking_cut : (nsr : ℕ) (marked recorded : Moment) (cpf collector : ℕ) (offline : Bool) (hash line : List ℕ)
     → length line ≡ 137
     → cuts 0 (9 ∷ 1 ∷ 24 ∷ 12 ∷ 24 ∷ 2 ∷ 1 ∷ []) line
-        ≡ payload_parts nsr (Clocking marked cpf recorded collector offline)
+    ≡ payload_parts nsr (Clocking marked cpf recorded collector offline)
     → take 64 (drop 73 line) ≡ hash → line ≡ record_text nsr (Clocking marked cpf recorded collector offline) hash
 clocking_cut nsr marked recorded cpf collector offline hash line size parts is =
     record_cut nsr (Clocking marked cpf recorded collector offline) hash line (9 ∷ 1 ∷ 24 ∷ 12 ∷ 24 ∷ 2 ∷ 1 ∷ []) parts

@@ -8,9 +8,8 @@ ghost use Rattle.afd_records.specs.Record.{op_text, offline_text, IsCno, IsColle
 ghost use Rattle.afd_records.specs.Line.{IsHashText, IsLowerHex};
 ghost use Rattle.afd_records.specs.Fields.{EmployerKindField, IsAny, IsField};
 
-use rep_fields::{CPF_DIGITS, Cpf, EmployerId, MOST_DIGITS, Text, get_n};
-
 use crate::record::Op;
+use rep_fields::{CPF_DIGITS, Cpf, EmployerId, MOST_DIGITS, Text, get_n};
 
 // The number of a record in its nine digits.
 pub(crate) fn read_nsr(field: &[u8]) -> Option<u32>

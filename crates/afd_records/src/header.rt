@@ -1,14 +1,16 @@
-ghost use Rattle.std.specs.Prelude.{◌≡◌, ◌++◌, [], length};
+ghost use Rattle.std.specs.Prelude.{◌≡◌, ◌+◌, ◌++◌, [], length};
 ghost use Rattle.afd_records.specs.File.{head_text, HasHeadText};
 ghost use Rattle.afd_records.specs.Parts.{owner_text, period_text};
 
-use rep_fields::{Day, EmployerId, RepNumber, Row, Stamp, Text};
-
 use crate::checksum::checksum_field;
-use crate::line::filled;
+use crate::line::{CHECKSUM_LEN, filled};
+use rep_fields::{Day, EmployerId, RepNumber, Row, Stamp, Text};
 
 /// The bytes of an AFD's first line.
 pub const HEAD_LEN: usize = 302;
+
+// The bytes of its first half, up to the recorder's number.
+const OWNER_LEN: usize = 206;
 
 /// The first line of an AFD: type 1 of Portaria MTP 671/2021, annex V (`cabeçalho`).
 #[derive(Clone, Copy, Debug, PartialEq, Eq)]
@@ -37,7 +39,7 @@ pub struct Head {
 
 /// The line of the head, without its end.
 #[tactic(auto, unfolding(crate::specs::File::head_payload_text))]
-pub fn print_head(head: &Head) -> [u8; 302]
+pub fn print_head(head: &Head) -> [u8; HEAD_LEN]
     requires { HasHeadText head.now }
     ensures { result ≡ head_text head.now }
 {
@@ -50,11 +52,11 @@ pub fn print_head(head: &Head) -> [u8; 302]
 }
 
 // Whose records they are.
-fn put_owner(row: &mut Row<302>, head: &Head)
+fn put_owner(row: &mut Row<HEAD_LEN>, head: &Head)
     requires empty { row.old ≡ [] }
     requires head { HasHeadText head.now }
     ensures value { row.new ≡ owner_text head.now }
-    ensures len { length row.new ≡ 206 }
+    ensures len { length row.new ≡ OWNER_LEN }
 {
     row.push_bytes(b"0000000001");
     row.push(head.id.kind());
@@ -65,11 +67,11 @@ fn put_owner(row: &mut Row<302>, head: &Head)
 }
 
 // Which days they are of, and which recorder made them.
-fn put_period(row: &mut Row<302>, head: &Head)
-    requires room { length row.old ≡ 206 }
+fn put_period(row: &mut Row<HEAD_LEN>, head: &Head)
+    requires room { length row.old ≡ OWNER_LEN }
     requires head { HasHeadText head.now }
     ensures value { row.new ≡ row.old ++ period_text head.now }
-    ensures len { length row.new ≡ 298 }
+    ensures len { length row.new + CHECKSUM_LEN ≡ HEAD_LEN }
 {
     row.push_bytes(&head.first.write());
     row.push_bytes(&head.last.write());

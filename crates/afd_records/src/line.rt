@@ -1,17 +1,34 @@
 ghost use Rattle.std.specs.Prelude.{◌≡◌, ◌≤◌, length};
 
+use rep_fields::Row;
 use std::marker::Model;
 
-use rep_fields::Row;
+/// The bytes of an employer's line, the longest of a record.
+pub const EMPLOYER_LEN: usize = 331;
 
-/// The bytes of the longest line of a record, an employer's.
-pub const LONGEST_LINE: usize = 331;
+/// The bytes of an adjustment's line.
+pub const ADJUST_LEN: usize = 73;
+
+/// The bytes of a worker's line.
+pub const WORKER_LEN: usize = 118;
+
+/// The bytes of an event's line.
+pub const EVENT_LEN: usize = 36;
+
+/// The bytes of a clocking's line.
+pub const CLOCKING_LEN: usize = 137;
+
+/// The digits of a checksum.
+pub const CHECKSUM_LEN: usize = 4;
+
+/// The digits of a hash.
+pub const HASH_LEN: usize = 64;
 
 /// The line of a record, or what stands in it before the hash or checksum, of at most 331 bytes, without the line's
 /// end. It takes no memory.
 #[derive(Drop)]
 pub struct AfdLine {
-    pub(crate) row: Row<331>,
+    pub(crate) row: Row<EMPLOYER_LEN>,
 }
 
 impl Model for AfdLine {
@@ -26,7 +43,7 @@ impl AfdLine {
     /// The bytes of the line.
     pub fn bytes(&self) -> &[u8]
         ensures value { result.now ≡ self.now }
-        ensures within { length result.now ≤ LONGEST_LINE }
+        ensures within { length result.now ≤ EMPLOYER_LEN }
     {
         self.row.bytes()
     }

@@ -7,19 +7,18 @@ ghost use Rattle.afd_records.specs.Fields.{Layout, IsLaidOut, IsFirstBad, IsFirs
 ghost use Rattle.afd_records.specs.Reading.{IsReadFrom, no_notes};
 ghost use Rattle.afd_records.specs.declared.record.Body.{Body as TheBody};
 
-use rep_fields::Stamp;
-
 use crate::checksum::ends_in_checksum;
 use crate::error::{BadLine, Notes};
-use crate::fields::{is_employer_kind, read_cno, read_collector, read_cpf, read_event, read_hash, read_id, read_nsr, read_offline, read_op, read_text};
+use crate::fields::{
+    is_employer_kind, read_cno, read_collector, read_cpf, read_event, read_hash, read_id, read_nsr,
+    read_offline, read_op, read_text,
+};
+use crate::line::{ADJUST_LEN, CLOCKING_LEN, EMPLOYER_LEN, EVENT_LEN, WORKER_LEN};
 use crate::record::Body;
+use rep_fields::Stamp;
 
+// Where the digit of the type stands.
 const TYPE_AT: usize = 9;
-const EMPLOYER_LEN: usize = 331;
-const ADJUST_LEN: usize = 73;
-const WORKER_LEN: usize = 118;
-const EVENT_LEN: usize = 36;
-const CLOCKING_LEN: usize = 137;
 
 /// A line of a record that was read.
 #[derive(Clone, Copy, Debug, PartialEq, Eq)]
@@ -51,6 +50,7 @@ pub fn read(line: &[u8]) -> Result<ReadLine, BadLine>
     read_by_type(line)
 }
 
+// Reads by the layout of the line's type, field by field; the places are those of the annex's table.
 fn read_by_type(line: &[u8]) -> Result<ReadLine, BadLine>
     ensures found { IfOk result (IsReadFrom line.now) }
     ensures unknown { ((layout : Layout) → IsLaidOut layout line.now → ⊥) → result ≡ Err (record { field = 0 }) }
@@ -120,7 +120,13 @@ fn read_clocking(line: &[u8]) -> Result<ReadLine, BadLine>
     };
     Ok(ReadLine {
         nsr,
-        body: Body::Clocking { marked, cpf, recorded, collector, offline },
+        body: Body::Clocking {
+            marked,
+            cpf,
+            recorded,
+            collector,
+            offline,
+        },
         hash: Some(hash),
         notes: Notes::NONE,
     })
@@ -148,7 +154,11 @@ fn read_adjust(line: &[u8]) -> Result<ReadLine, BadLine>
     }
     Ok(ReadLine {
         nsr,
-        body: Body::Adjust { before, after, resp },
+        body: Body::Adjust {
+            before,
+            after,
+            resp,
+        },
         hash: None,
         notes: Notes::NONE,
     })
@@ -185,7 +195,14 @@ fn read_worker(line: &[u8]) -> Result<ReadLine, BadLine>
     }
     Ok(ReadLine {
         nsr,
-        body: Body::Worker { at, op, cpf, name, extra, resp },
+        body: Body::Worker {
+            at,
+            op,
+            cpf,
+            name,
+            extra,
+            resp,
+        },
         hash: None,
         notes: Notes::NONE,
     })
@@ -225,7 +242,14 @@ fn read_employer(line: &[u8]) -> Result<ReadLine, BadLine>
     }
     Ok(ReadLine {
         nsr,
-        body: Body::Employer { at, resp, id, cno, name, place },
+        body: Body::Employer {
+            at,
+            resp,
+            id,
+            cno,
+            name,
+            place,
+        },
         hash: None,
         notes: Notes::NONE,
     })

@@ -1,13 +1,16 @@
+use crate::{
+    BadLine, Body, Head, Op, Trailer, crc16, print, print_head, print_trailer, read, recorded,
+    signature, stem,
+};
 use rep_fields::{Cpf, Day, EmployerId, RepNumber, Stamp, Text};
 use std::alloc::{AllocError, Global};
-
-use crate::{BadLine, Body, Head, Op, Trailer, crc16, print, print_head, print_trailer, read, recorded, signature, stem};
 
 // The hash of the first clocking below, by another program's SHA-256.
 const HASH: &[u8; 64] = b"9d373dc5c6efff2b73c59d4610ffa503f04201b32ee55070e6ab095b56a3da00";
 
 // The payload of a clocking.
-const CLOCKING: &[u8] = b"00000000372024-03-04T08:00:00-03000111444777352024-03-04T13:00:00-0300051";
+const CLOCKING: &[u8] =
+    b"00000000372024-03-04T08:00:00-03000111444777352024-03-04T13:00:00-0300051";
 
 // The parts of a line, each filled with spaces to its width.
 fn joined(alloc: Global, parts: &[(&[u8], usize)]) -> Result<Vec<u8>, AllocError> {
@@ -69,7 +72,14 @@ fn adjust_line(alloc: Global) -> Result<Vec<u8>, AllocError> {
 }
 
 fn event_line(alloc: Global) -> Result<Vec<u8>, AllocError> {
-    joined(alloc, &[(b"0000000066", 10), (b"2024-03-04T13:06:00-0300", 24), (b"07", 2)])
+    joined(
+        alloc,
+        &[
+            (b"0000000066", 10),
+            (b"2024-03-04T13:06:00-0300", 24),
+            (b"07", 2),
+        ],
+    )
 }
 
 fn clocking_line(alloc: Global) -> Result<Vec<u8>, AllocError> {
@@ -108,8 +118,14 @@ fn records_are_written_as_the_annex_lays_them_out(rt: HostRuntime) {
         place: Text::read(b"RUA A 1").expect(&rt, "a place"),
     };
     let line = employer_line(alloc).expect(&rt, "memory");
-    assert!(rt; print(&employer, 1, None).bytes() == line.as_slice(), "employer");
-    assert!(rt; recorded(&employer) == seven, "an employer is recorded at its stamp");
+    assert!(rt;
+        print(&employer, 1, None).bytes() == line.as_slice(),
+        "employer"
+    );
+    assert!(rt;
+        recorded(&employer) == seven,
+        "an employer is recorded at its stamp"
+    );
     let worker = Body::Worker {
         at: Stamp::read(b"2024-03-04T07:01:00-0300").expect(&rt, "a stamp"),
         op: Op::Include,
@@ -119,13 +135,26 @@ fn records_are_written_as_the_annex_lays_them_out(rt: HostRuntime) {
         resp,
     };
     let line = worker_line(alloc).expect(&rt, "memory");
-    assert!(rt; print(&worker, 2, None).bytes() == line.as_slice(), "worker");
+    assert!(rt;
+        print(&worker, 2, None).bytes() == line.as_slice(),
+        "worker"
+    );
     let one = Stamp::read(b"2024-03-04T13:00:00-0300").expect(&rt, "a stamp");
     let five = Stamp::read(b"2024-03-04T13:05:00-0300").expect(&rt, "a stamp");
-    let adjust = Body::Adjust { before: one, after: five, resp };
+    let adjust = Body::Adjust {
+        before: one,
+        after: five,
+        resp,
+    };
     let line = adjust_line(alloc).expect(&rt, "memory");
-    assert!(rt; print(&adjust, 5, None).bytes() == line.as_slice(), "adjustment");
-    assert!(rt; recorded(&adjust) == five, "an adjustment is recorded at the stamp after it");
+    assert!(rt;
+        print(&adjust, 5, None).bytes() == line.as_slice(),
+        "adjustment"
+    );
+    assert!(rt;
+        recorded(&adjust) == five,
+        "an adjustment is recorded at the stamp after it"
+    );
 }
 
 #[test]
@@ -145,8 +174,14 @@ fn events_and_clockings_are_written_as_the_annex_lays_them_out(rt: HostRuntime) 
         collector: 5,
         offline: true,
     };
-    assert!(rt; stem(&clocking, 3).bytes() == CLOCKING, "a clocking before its hash");
-    assert!(rt; recorded(&clocking) == one, "a clocking is recorded at its second stamp");
+    assert!(rt;
+        stem(&clocking, 3).bytes() == CLOCKING,
+        "a clocking before its hash"
+    );
+    assert!(rt;
+        recorded(&clocking) == one,
+        "a clocking is recorded at its second stamp"
+    );
 }
 
 #[test]
@@ -182,11 +217,19 @@ fn the_first_and_last_lines_of_a_file(rt: HostRuntime) {
     )
     .expect(&rt, "memory");
     assert!(rt; print_head(&head).as_slice() == line.as_slice(), "head");
-    let trailer = Trailer { counts: [1, 0, 2, 3, 4, 999_999_999] };
+    let trailer = Trailer {
+        counts: [1, 0, 2, 3, 4, 999_999_999],
+    };
     let text = b"9999999990000000010000000000000000020000000030000000049999999999";
-    assert!(rt; print_trailer(&trailer).as_slice() == text.as_slice(), "trailer");
+    assert!(rt;
+        print_trailer(&trailer).as_slice() == text.as_slice(),
+        "trailer"
+    );
     let line = joined(alloc, &[(b"ASSINATURA_DIGITAL_EM_ARQUIVO_P7S", 100)]).expect(&rt, "memory");
-    assert!(rt; signature().as_slice() == line.as_slice(), "the line for the signature");
+    assert!(rt;
+        signature().as_slice() == line.as_slice(),
+        "the line for the signature"
+    );
 }
 
 #[test]
@@ -207,7 +250,10 @@ fn lines_at_the_ends_of_their_ranges_are_read_and_written(rt: HostRuntime) {
         ],
     )
     .expect(&rt, "memory");
-    assert!(rt; reads_and_prints(most.as_slice()), "employer with the greatest values");
+    assert!(rt;
+        reads_and_prints(most.as_slice()),
+        "employer with the greatest values"
+    );
     let least = joined(
         alloc,
         &[
@@ -222,7 +268,10 @@ fn lines_at_the_ends_of_their_ranges_are_read_and_written(rt: HostRuntime) {
         ],
     )
     .expect(&rt, "memory");
-    assert!(rt; reads_and_prints(least.as_slice()), "a person with the least values and no texts");
+    assert!(rt;
+        reads_and_prints(least.as_slice()),
+        "a person with the least values and no texts"
+    );
     let adjust = joined(
         alloc,
         &[
@@ -233,7 +282,10 @@ fn lines_at_the_ends_of_their_ranges_are_read_and_written(rt: HostRuntime) {
         ],
     )
     .expect(&rt, "memory");
-    assert!(rt; reads_and_prints(adjust.as_slice()), "adjustment over all of time");
+    assert!(rt;
+        reads_and_prints(adjust.as_slice()),
+        "adjustment over all of time"
+    );
     let worker = joined(
         alloc,
         &[
@@ -246,7 +298,10 @@ fn lines_at_the_ends_of_their_ranges_are_read_and_written(rt: HostRuntime) {
         ],
     )
     .expect(&rt, "memory");
-    assert!(rt; reads_and_prints(worker.as_slice()), "worker with full texts");
+    assert!(rt;
+        reads_and_prints(worker.as_slice()),
+        "worker with full texts"
+    );
     let event = b"99999999961970-01-01T00:00:00+000008";
     assert!(rt; reads_and_prints(event), "event with the last code");
     let clocking = joined(
@@ -261,7 +316,10 @@ fn lines_at_the_ends_of_their_ranges_are_read_and_written(rt: HostRuntime) {
         ],
     )
     .expect(&rt, "memory");
-    assert!(rt; reads_and_prints(clocking.as_slice()), "clocking with the first collector, online");
+    assert!(rt;
+        reads_and_prints(clocking.as_slice()),
+        "clocking with the first collector, online"
+    );
 }
 
 // The field that is named where a byte of the line is another one; 99 where the line still reads.
@@ -286,53 +344,105 @@ fn field_after(line: &[u8], at: usize, byte: u8) -> u8 {
 #[test]
 fn the_first_field_off_its_grammar_is_named(rt: HostRuntime) {
     let alloc = rt.alloc();
+    let employer_text = employer_line(alloc).expect(&rt, "memory");
+    let worker_text = worker_line(alloc).expect(&rt, "memory");
+    let adjust_text = adjust_line(alloc).expect(&rt, "memory");
+    let event_text = event_line(alloc).expect(&rt, "memory");
+    let clocking_text = clocking_line(alloc).expect(&rt, "memory");
+    let employer = employer_text.as_slice();
+    let worker = worker_text.as_slice();
+    let adjust = adjust_text.as_slice();
+    let event = event_text.as_slice();
+    let clocking = clocking_text.as_slice();
+    let cases: [(&[u8], usize, u8, u8, &str); 37] = [
+        (employer, 9, b'3', 0, "type 3"),
+        (employer, 9, b'4', 0, "type of another length"),
+        (employer, 0, b' ', 1, "a space in the NSR"),
+        (employer, 8, b'0', 1, "NSR 0"),
+        (employer, 16, b'0', 3, "month 00"),
+        (employer, 34, b'1', 4, "more digits than a CPF"),
+        (employer, 47, b'6', 4, "a check digit"),
+        (employer, 48, b'3', 5, "kind 3"),
+        (employer, 48, b'2', 6, "a CNPJ named a CPF"),
+        (employer, 62, b'2', 6, "a check digit of the CNPJ"),
+        (employer, 76, b' ', 7, "a space in the CNO"),
+        (employer, 77, 0x7F, 8, "0x7F in the name"),
+        (employer, 326, 0x9F, 9, "0x9F in the place"),
+        (employer, 326, b'X', 10, "another place"),
+        (employer, 330, b'2', 10, "another checksum"),
+        (adjust, 3, b'x', 1, "a letter in the NSR"),
+        (adjust, 28, b'1', 3, "seconds"),
+        (adjust, 53, b' ', 4, "no sign"),
+        (adjust, 68, b'4', 5, "a check digit"),
+        (adjust, 69, b'e', 6, "a small letter"),
+        (worker, 1, b'-', 1, "a dash in the NSR"),
+        (worker, 32, b'6', 3, "an offset past the hour"),
+        (worker, 34, b'i', 4, "a small letter"),
+        (worker, 35, b'1', 5, "more digits than a CPF"),
+        (worker, 98, 0x1F, 6, "0x1F in the name"),
+        (worker, 102, 0x80, 7, "0x80 in the text"),
+        (worker, 103, b'6', 8, "a digit of the CPF"),
+        (worker, 117, b'C', 9, "another checksum"),
+        (event, 20, b't', 3, "a small T"),
+        (event, 35, b'9', 4, "code 09"),
+        (event, 34, b'1', 4, "code 17"),
+        (clocking, 29, b'*', 3, "no sign"),
+        (clocking, 45, b'4', 4, "a check digit"),
+        (clocking, 49, b'/', 5, "another year"),
+        (clocking, 71, b'6', 6, "collector 06"),
+        (clocking, 72, b'2', 7, "neither 0 nor 1"),
+        (clocking, 136, b'A', 8, "a capital in the hash"),
+    ];
+    for (line, at, byte, field, what) in &cases {
+        assert_eq!(rt; field_after(line, *at, *byte), *field, "{what}");
+    }
+    assert!(rt;
+        read(b"00000000662024-03-04T13:06:00-03000") == Err(BadLine { field: 0 }),
+        "an event that is cut short"
+    );
+    assert!(rt; read(b"") == Err(BadLine { field: 0 }), "no bytes");
+}
+
+// Each byte of the line altered alone, to each of some bytes: the line is refused, or it reads as another record,
+// whose line it is.
+fn each_byte_tells(line: &[u8], original: &[u8]) -> bool {
+    let mut altered = [0; 331];
+    let Some(cells) = altered.get_mut(..line.len()) else {
+        return false;
+    };
+    cells.copy_from_slice(line);
+    for at in 0..cells.len() {
+        let old = cells[at];
+        for byte in [b'0', b'1', b'9', b'A', b' ', b'|', 0xE7] {
+            cells[at] = byte;
+            if byte != old
+                && read(cells).is_ok()
+                && (&*cells == original || !reads_and_prints(cells))
+            {
+                return false;
+            }
+        }
+        cells[at] = old;
+    }
+    &*cells == original
+}
+
+#[test]
+fn a_line_with_one_byte_altered_is_refused_or_is_another_record(rt: HostRuntime) {
+    let alloc = rt.alloc();
     let employer = employer_line(alloc).expect(&rt, "memory");
     let worker = worker_line(alloc).expect(&rt, "memory");
     let adjust = adjust_line(alloc).expect(&rt, "memory");
     let event = event_line(alloc).expect(&rt, "memory");
     let clocking = clocking_line(alloc).expect(&rt, "memory");
-    let cases: [(&[u8], usize, u8, u8, &str); 37] = [
-        (employer.as_slice(), 9, b'3', 0, "type 3"),
-        (employer.as_slice(), 9, b'4', 0, "the type of another length"),
-        (employer.as_slice(), 0, b' ', 1, "employer: a space in the NSR"),
-        (employer.as_slice(), 8, b'0', 1, "employer: NSR 0"),
-        (employer.as_slice(), 16, b'0', 3, "employer: month 00"),
-        (employer.as_slice(), 34, b'1', 4, "employer: more digits than a CPF"),
-        (employer.as_slice(), 47, b'6', 4, "employer: a check digit"),
-        (employer.as_slice(), 48, b'3', 5, "employer: kind 3"),
-        (employer.as_slice(), 48, b'2', 6, "employer: a CNPJ named a CPF"),
-        (employer.as_slice(), 62, b'2', 6, "employer: a check digit of the CNPJ"),
-        (employer.as_slice(), 76, b' ', 7, "employer: a space in the CNO"),
-        (employer.as_slice(), 77, 0x7F, 8, "employer: 0x7F in the name"),
-        (employer.as_slice(), 326, 0x9F, 9, "employer: 0x9F in the place"),
-        (employer.as_slice(), 326, b'X', 10, "employer: another place"),
-        (employer.as_slice(), 330, b'2', 10, "employer: another checksum"),
-        (adjust.as_slice(), 3, b'x', 1, "adjustment: a letter in the NSR"),
-        (adjust.as_slice(), 28, b'1', 3, "adjustment: seconds"),
-        (adjust.as_slice(), 53, b' ', 4, "adjustment: no sign"),
-        (adjust.as_slice(), 68, b'4', 5, "adjustment: a check digit"),
-        (adjust.as_slice(), 69, b'e', 6, "adjustment: a small letter in the checksum"),
-        (worker.as_slice(), 1, b'-', 1, "worker: a dash in the NSR"),
-        (worker.as_slice(), 33, b'9', 3, "worker: an offset past the hour"),
-        (worker.as_slice(), 34, b'i', 4, "worker: a small letter"),
-        (worker.as_slice(), 35, b'1', 5, "worker: more digits than a CPF"),
-        (worker.as_slice(), 98, 0x1F, 6, "worker: 0x1F in the name"),
-        (worker.as_slice(), 102, 0x80, 7, "worker: 0x80 in the further identification"),
-        (worker.as_slice(), 103, b'6', 8, "worker: a digit of the CPF that answers"),
-        (worker.as_slice(), 117, b'C', 9, "worker: another checksum"),
-        (event.as_slice(), 20, b't', 3, "event: a small T"),
-        (event.as_slice(), 35, b'9', 4, "event: code 09"),
-        (event.as_slice(), 34, b'1', 4, "event: code 17"),
-        (clocking.as_slice(), 29, b'*', 3, "clocking: no sign"),
-        (clocking.as_slice(), 45, b'4', 4, "clocking: a check digit"),
-        (clocking.as_slice(), 49, b'/', 5, "clocking: another year"),
-        (clocking.as_slice(), 71, b'6', 6, "clocking: collector 06"),
-        (clocking.as_slice(), 72, b'2', 7, "clocking: neither online nor offline"),
-        (clocking.as_slice(), 136, b'A', 8, "clocking: a capital in the hash"),
-    ];
-    for (line, at, byte, field, what) in &cases {
-        assert_eq!(rt; field_after(line, *at, *byte), *field, "{what}");
+    for line in [
+        employer.as_slice(),
+        worker.as_slice(),
+        adjust.as_slice(),
+        event.as_slice(),
+        clocking.as_slice(),
+    ] {
+        assert!(rt; reads_and_prints(line), "the line itself");
+        assert!(rt; each_byte_tells(line, line), "each byte");
     }
-    assert!(rt; read(&event.as_slice()[..35]) == Err(BadLine { field: 0 }), "an event that is cut short");
-    assert!(rt; read(b"") == Err(BadLine { field: 0 }), "no bytes");
 }

@@ -1,9 +1,8 @@
 ghost use Rattle.std.specs.Prelude.{◌≡◌};
 ghost use Rattle.afd_records.specs.File.{trailer_text, signature_text, HasTrailerText};
 
-use rep_fields::Row;
-
 use crate::line::filled;
+use rep_fields::Row;
 
 /// The bytes of an AFD's trailer.
 pub const TRAILER_LEN: usize = 64;
@@ -21,7 +20,7 @@ pub struct Trailer {
 
 /// The line of the trailer, without its end.
 #[tactic(auto, unfolding(crate::specs::File::trailer_text))]
-pub fn print_trailer(trailer: &Trailer) -> [u8; 64]
+pub fn print_trailer(trailer: &Trailer) -> [u8; TRAILER_LEN]
     requires { HasTrailerText trailer.now.counts }
     ensures { result ≡ trailer_text trailer.now.counts }
 {
@@ -36,7 +35,7 @@ pub fn print_trailer(trailer: &Trailer) -> [u8; 64]
 
 /// The line that stands for the signature, which is kept in a file of its own: the last line of an AFD, without its
 /// end.
-pub fn signature() -> [u8; 100]
+pub fn signature() -> [u8; SIGNATURE_LEN]
     ensures { result ≡ signature_text }
 {
     let mut row = Row::<SIGNATURE_LEN>::new();

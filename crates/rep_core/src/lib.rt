@@ -1,10 +1,29 @@
-//! Core.
+//! The recorder's core: what is made of each request over the history so far, how the history goes on, and the hash
+//! chain of its clockings. The rules are this project's own, over the records of Portaria MTP 671/2021, annex V.
+//!
+//! A history is a list of entries, and the entry at place `i`, counted from 0, has the number `i + 1`. A `Core` stands
+//! for one history. It serves a request so:
+//!
+//! ```rust
+//! let reply = match core.decide(&request, core.kept(&request)) {
+//!     Verdict::Fresh => {
+//!         core.reserve(&request)?;
+//!         core.accept(&request, stamp);
+//!         core.receipt(&request)
+//!     }
+//!     settled => core.reply(&request, settled),
+//! };
+//! ```
+//!
+//! Only `reserve` takes memory. After it, `line` gives the line of the record that `accept` will add.
 #![tactic(auto)]
 
 mod laws;
 mod recorder;
 mod registration;
 mod search;
+#[cfg(test)]
+mod tests;
 mod verdict;
 
 pub use laws::{

@@ -73,7 +73,7 @@ impl Core {
     /// The last number that is given out from now on, from 1 to 999,999,999. Nothing else changes.
     pub fn set_limit(&mut self, last_nsr: u32)
         requires { IsLimit last_nsr }
-        ensures same { (h : List Entry) → Stands self.old h → Stands self.new h }
+        ensures same { (h : List Entry) → Stands self.old h ↔ Stands self.new h }
         ensures limit { self.new.limit ≡ last_nsr }
         ensures room { self.new.room ≡ self.old.room }
     {
@@ -212,7 +212,7 @@ impl Core {
     ///
     /// `OutOfMemory` where there isn't enough. Then there is no less room than before.
     pub fn reserve(&mut self, q: &Request) -> Result<(), OutOfMemory>
-        ensures same { (h : List Entry) → Stands self.old h → Stands self.new h }
+        ensures same { (h : List Entry) → Stands self.old h ↔ Stands self.new h }
         ensures limit { self.new.limit ≡ self.old.limit }
         ensures ready { OnOk result (IsReady self.new q.now) }
         ensures room { OnErr result (self.old.room ≤ self.new.room) }

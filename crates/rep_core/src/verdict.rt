@@ -1,14 +1,14 @@
 use afd_records::Op;
 use rep_fields::Stamp;
 
-/// What the recorder makes of a request.
+/// What the recorder makes of a request over the history so far: the first case that holds.
 #[derive(Clone, Copy, Debug, PartialEq, Eq)]
 pub enum Verdict {
     /// It was recorded before, with this number and this content.
     Repeat { nsr: u32 },
-    /// Another one was recorded by its origin and sequence number, with this number.
+    /// Another content was recorded under its origin and sequence number, with this number.
     Conflict { nsr: u32 },
-    /// Its worker isn't registered.
+    /// The worker that it names isn't registered as it needs.
     Unregistered,
     /// There is no number left.
     Exhausted,
@@ -16,10 +16,11 @@ pub enum Verdict {
     Fresh,
 }
 
-/// A worker's last registration record.
+/// What a worker's last registration record says.
 #[derive(Clone, Copy, Debug, PartialEq, Eq)]
 pub struct WorkerState {
+    /// What was done.
     pub op: Op,
-    /// Its recording stamp.
+    /// When the record was taken.
     pub at: Stamp,
 }

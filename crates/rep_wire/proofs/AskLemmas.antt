@@ -1,5 +1,5 @@
 -- What the fields behind a line's second ask, or the first of them that is off its kind.
-use Rattle.std.proofs.Common.{◌≡◌, ◌≢◌, ℕ, ◌≤◌, ◌==◌, Bool, false, cond, List, [], ◌∷◌, length, Option, Some, refl, sym, ap, subst, codes, arith}
+use Rattle.std.proofs.Common.{◌≡◌, ℕ, false, List, [], ◌∷◌, Option, Some, refl, sym, subst, codes, arith}
 use Rattle.std.specs.Str.{bytes_eq}
 use Rattle.rep_fields.specs.Latin.{IsText, IsFilled}
 use Rattle.rep_fields.specs.Employer.{IsEmployerId}
@@ -8,12 +8,11 @@ use Rattle.rep_fields.specs.declared.employer.EmployerId.{EmployerId}
 use Rattle.afd_records.specs.Record.{IsCno, op_text}
 use Rattle.afd_records.specs.declared.record.Op.{Op}
 use Rattle.rep_wire.specs.Fields.{fields_behind}
-use Rattle.rep_wire.specs.Request.{HasNoBar}
 use Rattle.rep_wire.specs.LaneGrammar.{IsFirstOff, IsIdText, IsCnoText, IsNameOfEmployer, IsNameOfWorker, cpf_field, employer_kind_field, employer_id_field, cno_field, employer_name_field, place_field, op_field, worker_name_field, extra_field}
 use Rattle.rep_wire.specs.Asking.{Asks, IsFault}
 use Rattle.rep_wire.specs.declared.asking.Fault.TheVariants.{Number, Field}
 use Rattle.rep_wire.specs.declared.letter.Letter.TheVariants as letter
-use Rattle.rep_wire.specs.declared.request.Ask.TheVariants.{Mark, Employer, Worker, Adjust, Event}
+use Rattle.rep_wire.specs.declared.request.Ask.TheVariants.{Employer, Worker}
 use Rattle.rep_wire.proofs.FieldLemmas.{fields_of-some, EachHasNoBar, EachHasNoBar-behind, HasNoBar-filled}
 
 -- a clocking whose fourth field isn't `1` has no fifth
@@ -26,7 +25,7 @@ no_fifth behind cpf mode text is online =
 pub employer_fault : (behind : List (List ℕ)) (resp kind id cno name place : List ℕ) (number : ℕ)
     → behind ≡ resp ∷ kind ∷ id ∷ cno ∷ name ∷ place ∷ []
     → IsFirstOff 3 (cpf_field ∷ employer_kind_field ∷ employer_id_field kind ∷ cno_field ∷ employer_name_field ∷ place_field ∷ [])
-        (resp ∷ kind ∷ id ∷ cno ∷ name ∷ place ∷ []) number
+    (resp ∷ kind ∷ id ∷ cno ∷ name ∷ place ∷ []) number
     → IsFault letter.Employer behind (Field number)
 employer_fault behind resp kind id cno name place number is off =
     subst (λ (fields : List (List ℕ)). IsFault letter.Employer fields (Field number)) (sym is) (refl, off)
@@ -34,7 +33,7 @@ employer_fault behind resp kind id cno name place number is off =
 pub worker_fault : (behind : List (List ℕ)) (op cpf name extra resp : List ℕ) (number : ℕ)
     → behind ≡ op ∷ cpf ∷ name ∷ extra ∷ resp ∷ []
     → IsFirstOff 3 (op_field ∷ cpf_field ∷ worker_name_field op ∷ extra_field ∷ cpf_field ∷ [])
-        (op ∷ cpf ∷ name ∷ extra ∷ resp ∷ []) number
+    (op ∷ cpf ∷ name ∷ extra ∷ resp ∷ []) number
     → IsFault letter.Worker behind (Field number)
 worker_fault behind op cpf name extra resp number is off =
     subst (λ (fields : List (List ℕ)). IsFault letter.Worker fields (Field number)) (sym is) (refl, off)
@@ -53,12 +52,18 @@ pub employer_asked : (text : Option (List ℕ)) (resp_text kind id_text cno_text
     → Asks letter.Employer (fields_behind text) (Employer resp id cno name place)
 employer_asked text resp_text kind id_text cno_text name_text place_text resp id cno name place is said =
     let bars : EachHasNoBar (resp_text ∷ kind ∷ id_text ∷ cno_text ∷ name_text ∷ place_text ∷ []) =
-        subst EachHasNoBar is (EachHasNoBar-behind text) in
+    subst EachHasNoBar is (EachHasNoBar-behind text) in
     subst (λ (fields : List (List ℕ)). Asks letter.Employer fields (Employer resp id cno name place)) (sym is) (record {
-      in_range =
-        (said.by.0, said.whom.0, said.works.0, said.named.0.0, said.named.0.1,
-        HasNoBar-filled name name_text said.named.1 bars.1.1.1.1.0, said.where_.0,
-        HasNoBar-filled place place_text said.where_.1 bars.1.1.1.1.1.0);
+      in_range = (
+        said.by.0,
+        said.whom.0,
+        said.works.0,
+        said.named.0.0,
+        said.named.0.1,
+        HasNoBar-filled name name_text said.named.1 bars.1.1.1.1.0,
+        said.where_.0,
+        HasNoBar-filled place place_text said.where_.1 bars.1.1.1.1.1.0,
+      );
       of_letter = refl;
       said = (said.by.1, said.whom.1, said.works.1, said.named.1, said.where_.1);
     })
@@ -77,11 +82,17 @@ pub worker_asked : (text : Option (List ℕ)) (op_there cpf_there name_text extr
     → Asks letter.Worker (fields_behind text) (Worker op cpf name extra resp)
 worker_asked text op_there cpf_there name_text extra_text resp_text op cpf name extra resp is said =
     let bars : EachHasNoBar (op_there ∷ cpf_there ∷ name_text ∷ extra_text ∷ resp_text ∷ []) =
-        subst EachHasNoBar is (EachHasNoBar-behind text) in
+    subst EachHasNoBar is (EachHasNoBar-behind text) in
     subst (λ (fields : List (List ℕ)). Asks letter.Worker fields (Worker op cpf name extra resp)) (sym is) (record {
-      in_range =
-        (said.whom.0, said.named.0.0, said.named.0.1, HasNoBar-filled name name_text said.named.1 bars.1.1.0,
-        said.further.0, HasNoBar-filled extra extra_text said.further.1 bars.1.1.1.0, said.by.0);
+      in_range = (
+        said.whom.0,
+        said.named.0.0,
+        said.named.0.1,
+        HasNoBar-filled name name_text said.named.1 bars.1.1.0,
+        said.further.0,
+        HasNoBar-filled extra extra_text said.further.1 bars.1.1.1.0,
+        said.by.0,
+      );
       of_letter = refl;
       said = (said.done, said.whom.1, said.named.1, said.further.1, said.by.1);
     })

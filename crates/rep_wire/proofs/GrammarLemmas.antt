@@ -1,26 +1,21 @@
 -- Laws of the grammar of lane files: what is said is said once, and the fields that say something are of their kinds.
-use Rattle.std.proofs.Common.{◌≡◌, ◌≢◌, ℕ, ◌+◌, ◌<◌, ◌≤◌, ◌^◌, ◌⊎◌, inl, inr, List, [], ◌∷◌, length, get_or, Option, Some, None, refl, sym, ap, ◌∙◌, subst, codes, decimal, arith}
+use Rattle.std.proofs.Common.{◌≡◌, ℕ, ◌⊎◌, inl, inr, List, length, get_or, refl, sym, ap, ◌∙◌, subst, decimal, arith}
 use Rattle.std.proofs.lemmas.Fmt.{decimal_injective}
-use Rattle.rep_fields.specs.Digits.{numeral, digits, FitsDigits}
+use Rattle.rep_fields.specs.Digits.{numeral, FitsDigits}
 use Rattle.rep_fields.specs.Latin.{IsText, IsFilled}
-use Rattle.rep_fields.specs.Moment.{Moment, IsMoment, moment_text}
 use Rattle.rep_fields.specs.Identity.{IsCpf, cpf_text}
-use Rattle.rep_fields.specs.Employer.{IsEmployerId, kind_byte}
+use Rattle.rep_fields.specs.Employer.{IsEmployerId}
 use Rattle.rep_fields.specs.declared.employer.EmployerId.{EmployerId}
 use Rattle.rep_fields.specs.declared.employer.EmployerId.TheVariants.{Cnpj, Person}
 use Rattle.rep_fields.proofs.Numerals.{numeral-injective, length-numeral}
-use Rattle.rep_fields.proofs.StampTexts.{moment_text-injective}
 use Rattle.rep_fields.proofs.Texts.{IsFilled-unique}
 use Rattle.afd_records.specs.Record.{IsWrittenEvent, op_text}
 use Rattle.afd_records.specs.declared.record.Op.{Op}
 use Rattle.afd_records.specs.declared.record.Op.TheVariants.{Include, Amend, Exclude}
-use Rattle.rep_wire.specs.Request.{IsSeq, IsAsk}
-use Rattle.rep_wire.specs.LaneGrammar.{letter_text, kinds_of, IsField, IsFirstOff, IsIdText, IsCnoText, IsCnoNumeral, id_digits, letter_of, SaysAsk, HasCollector, collector_of}
-use Rattle.rep_wire.specs.declared.head.LaneHead.{LaneHead}
+use Rattle.rep_wire.specs.Request.{IsSeq}
+use Rattle.rep_wire.specs.LaneGrammar.{letter_text, IsIdText, IsCnoText}
 use Rattle.rep_wire.specs.declared.letter.Letter.{Letter}
 use Rattle.rep_wire.specs.declared.letter.Letter.TheVariants as letter
-use Rattle.rep_wire.specs.declared.request.Ask.{Ask}
-use Rattle.rep_wire.specs.declared.request.Ask.TheVariants.{Mark, Employer, Worker, Adjust, Event}
 
 pub letter_text-injective : (a b : Letter) → letter_text a ≡ letter_text b → a ≡ b
 letter_text-injective letter.Mark letter.Mark h = refl
@@ -63,10 +58,10 @@ cno-unique a b text (inr some) (inl none) =
     absurd (omega (arith, ap length (sym none.0 ∙ some.1.written), length-numeral some.0 a, some.1.some))
 cno-unique a b text (inr some) (inr other) =
     let width : some.0 ≡ other.0 =
-        sym (length-numeral some.0 a) ∙ ap length (sym some.1.written ∙ other.1.written) ∙ length-numeral other.0 b in
+    sym (length-numeral some.0 a) ∙ ap length (sym some.1.written ∙ other.1.written) ∙ length-numeral other.0 b in
     let fits : FitsDigits other.0 a = subst (λ (w : ℕ). FitsDigits w a) width some.1.fits in
     let same : numeral other.0 a ≡ numeral other.0 b =
-        ap (λ w. numeral w a) (sym width) ∙ sym some.1.written ∙ other.1.written in
+    ap (λ w. numeral w a) (sym width) ∙ sym some.1.written ∙ other.1.written in
     numeral-injective other.0 a b fits other.1.fits same
 
 pub text-unique : (most : ℕ) (a b text : List ℕ) → IsText most a → IsText most b → IsFilled a text → IsFilled b text

@@ -1,11 +1,11 @@
 -- A head's line and its three fields.
-use Rattle.std.proofs.Common.{◌≡◌, ◌≢◌, ℕ, ◌+◌, ◌<◌, ◌≤◌, ◌%◌, ◌/◌, ◌^◌, ◌==◌, List, [], ◌∷◌, ◌++◌, length, get_or, All, true, false, refl, sym, ap, ◌∙◌, subst, codes, decimal, arith, append-nil}
-use Rattle.std.specs.List.{slice_split, join_with_byte}
+use Rattle.std.proofs.Common.{◌≡◌, ◌≢◌, ℕ, ◌+◌, ◌<◌, ◌%◌, ◌^◌, ◌==◌, List, [], ◌∷◌, ◌++◌, get_or, All, false, refl, sym, ap, ◌∙◌, codes, decimal, arith, append-nil}
+use Rattle.std.specs.List.{join_with_byte}
 use Rattle.std.proofs.lemmas.Bool.{ne_eqb}
 use Rattle.std.proofs.lemmas.Fmt.{decimal_by_steps}
 use Rattle.std.proofs.lemmas.List.Elements.{All-nil, All-cons, All-push}
 use Rattle.std.proofs.lemmas.List.Splits.{slice_split_at, slice_split_none}
-use Rattle.rep_fields.specs.Digits.{numeral, IsDigitByte}
+use Rattle.rep_fields.specs.Digits.{numeral}
 use Rattle.rep_fields.specs.Identity.{bar}
 use Rattle.rep_fields.proofs.Numerals.{IsDigitByte-numeral}
 use Rattle.rep_wire.specs.Fields.{fields_of, join-fields_of}
@@ -41,7 +41,7 @@ fields_of-head_text head is =
     let small : head.origin < 2 ^ 64 = omega (arith, is.origin) in
     let letter : HasNoBar (codes "L") = All-cons (λ b. b ≢ bar) 76 [] (λ e. omega arith) (All-nil (λ b. b ≢ bar)) in
     let kind : fields_of (numeral 2 head.kind ++ []) ≡ numeral 2 head.kind ∷ [] =
-        ap fields_of (append-nil (numeral 2 head.kind)) ∙ fields_of-one (numeral 2 head.kind) (HasNoBar-numeral 2 head.kind) in
+    ap fields_of (append-nil (numeral 2 head.kind)) ∙ fields_of-one (numeral 2 head.kind) (HasNoBar-numeral 2 head.kind) in
     fields_of-bar (codes "L") (decimal head.origin ++ bar ∷ (numeral 2 head.kind ++ [])) letter
     ∙ ap (λ fields. codes "L" ∷ fields) (fields_of-bar (decimal head.origin) (numeral 2 head.kind ++ []) (HasNoBar-decimal head.origin small)
     ∙ ap (λ fields. decimal head.origin ∷ fields) kind)

@@ -1,17 +1,16 @@
 -- A line orders one thing at most, and a line that orders something isn't malformed.
-use Rattle.std.proofs.Common.{◌≡◌, ◌≢◌, ℕ, ◌⊎◌, inl, inr, List, [], ◌∷◌, length, Option, Some, None, refl, sym, ap, ◌∙◌, subst, codes, decimal, arith, Result, Ok, Err, IfOk, IfErr}
-use Rattle.rep_fields.specs.Moment.{Moment, IsMoment}
+use Rattle.std.proofs.Common.{◌≡◌, ℕ, inl, inr, List, [], ◌∷◌, length, Option, Some, None, refl, sym, ap, ◌∙◌, subst, arith, Result, Ok, Err, IfOk, IfErr}
+use Rattle.rep_fields.specs.Moment.{Moment}
 use Rattle.rep_fields.proofs.StampTexts.{moment_text-injective}
 use Rattle.rep_fields.specs.Employer.{kind_byte}
 use Rattle.rep_fields.specs.declared.employer.EmployerId.{EmployerId}
 use Rattle.rep_fields.specs.declared.employer.EmployerId.TheVariants.{Cnpj, Person}
 use Rattle.afd_records.specs.declared.record.Op.{Op}
 use Rattle.rep_wire.specs.Fields.{fields_of}
-use Rattle.rep_wire.specs.Request.{IsSeq, IsAsk, IsRequest}
-use Rattle.rep_wire.specs.LaneGrammar.{letter_text, kinds_of, IsField, IsFirstOff, letter_of, SaysAsk, Says, HasCollector, collector_of, MaySend, IsAskedOn, IsFaultAt, IsRefused, IsMalformed, Orders, employer_kind_field}
+use Rattle.rep_wire.specs.Request.{IsAsk}
+use Rattle.rep_wire.specs.LaneGrammar.{kinds_of, IsField, IsFirstOff, letter_of, SaysAsk, Says, HasCollector, IsAskedOn, IsFaultAt, IsRefused, IsMalformed, IsOffGrammar, Orders, employer_kind_field}
 use Rattle.rep_wire.specs.declared.head.LaneHead.{LaneHead}
 use Rattle.rep_wire.specs.declared.letter.Letter.{Letter}
-use Rattle.rep_wire.specs.declared.letter.Letter.TheVariants as letter
 use Rattle.rep_wire.specs.declared.request.Ask.{Ask}
 use Rattle.rep_wire.specs.declared.request.Ask.TheVariants.{Mark, Employer, Worker, Adjust, Event}
 use Rattle.rep_wire.specs.declared.request.Request.{Request}
@@ -41,16 +40,16 @@ no_field_off (Mark cpf collector (Some at)) (third ∷ fourth ∷ fifth ∷ []) 
     past (past (past offline (cpf, range.0, said.0)) refl) (at, range.2, said.2)
 no_field_off (Employer resp id cno name place) (third ∷ fourth ∷ fifth ∷ sixth ∷ seventh ∷ eighth ∷ []) number range said off =
     past (past (past (past (past (past off
-        (resp, range.0, said.0)) (kind_of id fourth said.1.0)) (id, range.1, said.1)) (cno, range.2, said.2))
-        (name, (range.3, range.4), said.3)) (place, range.6, said.4)
+    (resp, range.0, said.0)) (kind_of id fourth said.1.0)) (id, range.1, said.1)) (cno, range.2, said.2))
+    (name, (range.3, range.4), said.3)) (place, range.6, said.4)
   where
     kind_of : (id : EmployerId) (text : List ℕ) → text ≡ kind_byte id ∷ [] → IsField employer_kind_field text
     kind_of (Cnpj number) text is = inl is
     kind_of (Person cpf) text is = inr is
 no_field_off (Worker op cpf name extra resp) (third ∷ fourth ∷ fifth ∷ sixth ∷ seventh ∷ []) number range said off =
     past (past (past (past (past off
-        (op, said.0)) (cpf, range.0, said.1)) (op, name, said.0, (range.1, range.2), said.2)) (extra, range.4, said.3))
-        (resp, range.6, said.4)
+    (op, said.0)) (cpf, range.0, said.1)) (op, name, said.0, (range.1, range.2), said.2)) (extra, range.4, said.3))
+    (resp, range.6, said.4)
 no_field_off (Adjust before resp) (third ∷ fourth ∷ []) number range said off =
     past (past off (before, range.0, said.0)) (resp, range.1, said.1)
 no_field_off (Event code) (third ∷ []) number range said off = past off (code, range, said)
@@ -63,7 +62,7 @@ not_refused head q (first ∷ second ∷ behind) number asked said (inl no_lette
     no_letter.0 (letter_of q.ask) asked.allowed said.0
 not_refused head q (first ∷ second ∷ behind) number asked said (inr refused) =
     let same : refused.0 ≡ letter_of q.ask =
-        letter_text-injective refused.0 (letter_of q.ask) (sym refused.2 ∙ said.0) in
+    letter_text-injective refused.0 (letter_of q.ask) (sym refused.2 ∙ said.0) in
     at_letter (subst (λ (l : Letter). IsRefused l (second ∷ behind) number) same refused.3)
   where
     at_letter : IsRefused (letter_of q.ask) (second ∷ behind) number → ⊥
@@ -74,8 +73,9 @@ not_refused head q _ number asked said fault = absurd said
 
 pub not_malformed : (head : LaneHead) (line : List ℕ) (order : Order) (malformed : Malformed) → Orders head line order
     → IsMalformed head line malformed → ⊥
-not_malformed head line (Asked q) malformed ordered refused =
-    not_refused head q (fields_of line) malformed.field ordered.in_range ordered.said refused.field
+not_malformed head line (Asked q) malformed ordered (inl long) = omega (arith, long.0, ordered.short)
+not_malformed head line (Asked q) malformed ordered (inr off) =
+    not_refused head q (fields_of line) malformed.field ordered.in_range ordered.said off.field
 not_malformed head line (Extract seq from to) malformed ordered refused = ordered.in_range.allowed
 
 -- one list of fields asks one thing
@@ -150,9 +150,9 @@ requests_agree head p q (first ∷ second ∷ behind) p_asked q_asked p_said q_s
     let letters = letter_text-injective (letter_of p.ask) (letter_of q.ask) (sym p_said.0 ∙ q_said.0) in
     let origins : p.origin ≡ q.origin = p_asked.origin ∙ sym q_asked.origin in
     let seqs : p.seq ≡ q.seq =
-        seq-injective p.seq q.seq p_asked.request.seq q_asked.request.seq (sym p_said.1 ∙ q_said.1) in
+    seq-injective p.seq q.seq p_asked.request.seq q_asked.request.seq (sym p_said.1 ∙ q_said.1) in
     let asks : p.ask ≡ q.ask = asks_agree head p.ask q.ask behind letters p_asked.request.ask q_asked.request.ask
-        p_asked.collector q_asked.collector p_said.2 q_said.2 in
+    p_asked.collector q_asked.collector p_said.2 q_said.2 in
     let same : p ≡ q = λ i. record { origin = origins i; seq = seqs i; ask = asks i } in
     ap Asked same
 requests_agree head p q _ p_asked q_asked p_said q_said = absurd p_said
@@ -166,8 +166,13 @@ orders_agree head line (Asked p) (Extract seq from to) a_ordered b_ordered = abs
 
 -- so an answer that is right is the only one
 pub only_answer : (head : LaneHead) (line : List ℕ) (result : Result Order Malformed) → IfOk result (Orders head line)
-    → IfErr result (IsMalformed head line) → (order : Order) → Orders head line order → result ≡ Ok order
-only_answer head line (Ok found) is_found is_malformed order ordered =
+    → IfErr result (IsOffGrammar head line) → (order : Order) → Orders head line order → result ≡ Ok order
+only_answer head line (Ok found) is_found is_off order ordered =
     ap Ok (orders_agree head line found order is_found ordered)
-only_answer head line (Err malformed) is_found is_malformed order ordered =
-    absurd (not_malformed head line order malformed ordered is_malformed)
+only_answer head line (Err malformed) is_found is_off order ordered =
+    absurd (not_malformed head line order malformed ordered (inr is_off))
+
+pub malformed_from_off : (head : LaneHead) (line : List ℕ) (result : Result Order Malformed)
+    → IfErr result (IsOffGrammar head line) → IfErr result (IsMalformed head line)
+malformed_from_off head line (Ok found) is_off = tt
+malformed_from_off head line (Err malformed) is_off = inr is_off

@@ -1,6 +1,6 @@
 -- The lines of a lane file: this project's own. The first is the head, and each line behind it orders something or is
 -- malformed.
-use Rattle.std.specs.Prelude.{◌≡◌, ◌≢◌, ℕ, ◌+◌, ◌≤◌, ◌⊎◌, ◌==◌, if◌then◌else◌, List, [], ◌∷◌, length, slice_index_or, codes, decimal, Some, None}
+use Rattle.std.specs.Prelude.{◌≡◌, ◌≢◌, ℕ, ◌+◌, ◌<◌, ◌≤◌, ◌⊎◌, ◌==◌, if◌then◌else◌, List, [], ◌∷◌, length, slice_index_or, codes, decimal, Some, None}
 use Rattle.std.specs.List.{concat}
 use Rattle.std.specs.Str.{bytes_eq}
 use Rattle.rep_fields.specs.Digits.{numeral, FitsDigits}
@@ -13,6 +13,7 @@ use Rattle.rep_fields.specs.declared.employer.EmployerId.{EmployerId}
 use Rattle.rep_fields.specs.declared.employer.EmployerId.TheVariants.{Cnpj, Person}
 use Rattle.afd_records.specs.Record.{IsCno, IsWrittenEvent, op_text}
 use Rattle.afd_records.specs.declared.record.Op.{Op}
+use Rattle.rep_io.specs.Lines.{longest_line}
 use Rattle.rep_wire.specs.Fields.{fields_of}
 use Rattle.rep_wire.specs.Request.{IsOrigin, IsSeq, IsWorkerName, IsRequest}
 use Rattle.rep_wire.specs.declared.head.LaneHead.{LaneHead}
@@ -179,7 +180,7 @@ IsRefused letter [] number = number ≡ 0
 IsRefused letter (second ∷ behind) number =
     ((length behind ≢ length (kinds_of letter behind)) × (number ≡ 0))
     ⊎ ((length behind ≡ length (kinds_of letter behind))
-        × IsFirstOff 2 (seq_field ∷ kinds_of letter behind) (second ∷ behind) number)
+    × IsFirstOff 2 (seq_field ∷ kinds_of letter behind) (second ∷ behind) number)
 
 -- no letter that the lane's lines may have
 abbrev pub IsNoLetter : LaneHead → List ℕ → Type 0
@@ -199,10 +200,16 @@ IsToldSeq (first ∷ []) seq = seq ≡ 0
 IsToldSeq (first ∷ second ∷ behind) seq =
     (IsSeq seq × (second ≡ decimal seq)) ⊎ (¬ IsField seq_field second × (seq ≡ 0))
 
--- what is told of a line that orders nothing
-pub record IsMalformed (head : LaneHead) (line : List ℕ) (malformed : Malformed) : Type 0 where
+-- what is told of a line that is read to its end, and orders nothing
+pub record IsOffGrammar (head : LaneHead) (line : List ℕ) (malformed : Malformed) : Type 0 where
+  pub short : length line ≤ longest_line
   pub field : IsFaultAt head (fields_of line) malformed.field
   pub seq : IsToldSeq (fields_of line) malformed.seq
+
+-- what is told of a line that orders nothing: one that is too long isn't looked at
+abbrev pub IsMalformed : LaneHead → List ℕ → Malformed → Type 0
+IsMalformed head line malformed =
+    ((longest_line < length line) × (malformed.field ≡ 0) × (malformed.seq ≡ 0)) ⊎ IsOffGrammar head line malformed
 
 -- the collector that is recorded with a lane's clockings: an operator's are those of another device
 abbrev pub collector_of : LaneHead → ℕ
@@ -267,5 +274,6 @@ Says _ _ = ⊥
 
 -- the line of the lane orders this
 pub record Orders (head : LaneHead) (line : List ℕ) (order : Order) : Type 0 where
+  pub short : length line ≤ longest_line
   pub in_range : IsOrder head order
   pub said : Says order (fields_of line)

@@ -1,7 +1,6 @@
 -- The record that a request becomes when it is recorded, and when a record has a request's content.
-use Rattle.std.specs.Prelude.{◌≡◌, ℕ, Bool, true, false, List, Option, Some, None}
+use Rattle.std.specs.Prelude.{◌≡◌, Bool, true, false, Option, Some, None}
 use Rattle.rep_fields.specs.Moment.{Moment}
-use Rattle.afd_records.specs.declared.record.Op.{Op}
 use Rattle.afd_records.specs.declared.record.Body as body
 use Rattle.afd_records.specs.declared.record.Body.TheVariants as recorded
 use Rattle.rep_wire.specs.declared.request.Ask.{Ask}

@@ -1,11 +1,10 @@
 -- The reply lines of a lane: this project's own. Fields stand between bars, numbers have no zeros in front but for
 -- a code's two digits, and LF ends a line.
-use Rattle.std.specs.Prelude.{ℕ, List, [], ◌∷◌, ◌++◌, codes, decimal, Option, Some, None}
+use Rattle.std.specs.Prelude.{ℕ, List, [], ◌∷◌, codes, decimal, Option, Some, None}
 use Rattle.std.specs.List.{concat}
 use Rattle.rep_fields.specs.Moment.{Moment, moment_text}
 use Rattle.rep_wire.specs.declared.reply.Code.{Code}
 use Rattle.rep_wire.specs.declared.reply.Code.TheVariants.{Malformed, Unregistered, Conflict, Exhausted, LinkLost}
-use Rattle.rep_wire.specs.declared.reply.Slip.{Slip}
 use Rattle.rep_wire.specs.declared.reply.Answer.{Answer}
 use Rattle.rep_wire.specs.declared.reply.Answer.TheVariants.{Receipt, Refused}
 use Rattle.rep_wire.specs.declared.reply.Reply.{Reply}

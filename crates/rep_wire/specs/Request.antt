@@ -1,5 +1,5 @@
 -- Requests to the recorder, each part in its range: this project's own.
-use Rattle.std.specs.Prelude.{◌≡◌, ◌≢◌, ℕ, ◌<◌, ◌≤◌, ◌⊎◌, List, [], All, Option, Some, None, OnSome, IfSome}
+use Rattle.std.specs.Prelude.{◌≡◌, ◌≢◌, ℕ, ◌≤◌, List, [], All, IfSome}
 use Rattle.rep_fields.specs.Latin.{IsText}
 use Rattle.rep_fields.specs.Moment.{IsMoment}
 use Rattle.rep_fields.specs.Identity.{IsCpf, bar}

@@ -1,10 +1,9 @@
 ghost use Rattle.std.specs.Prelude.{◌≡◌, ◌+◌, ◌≤◌, ◌∷◌, ◌++◌, [], length, codes, decimal};
 ghost use Rattle.rep_wire.specs.Reply.{code_text, marked_text, hash_text, answer_text, answer_letter, reply_text, extract_text};
 
+use crate::reply::{Answer, Code, Reply, Slip};
 use rep_fields::{Row, Stamp};
 use rep_io::Piece;
-
-use crate::reply::{Answer, Code, Reply, Slip};
 
 /// No line of a reply is longer.
 const LONGEST_REPLY: usize = 208;

@@ -5,8 +5,6 @@ ghost use Rattle.rep_wire.specs.Fields.{fields_behind};
 ghost use Rattle.rep_wire.specs.LaneGrammar.{IsLaneHead, MaySend, HasCollector, collector_of};
 ghost use Rattle.rep_wire.specs.Asking.{Asks, IsFault, collector_in};
 
-use rep_fields::{Cpf, Stamp, Text};
-
 use crate::cut::{EmployerFields, WorkerFields, five, next, one, six, two};
 use crate::head::{LaneHead, OPERATOR};
 use crate::letter::Letter;
@@ -15,6 +13,7 @@ use crate::value::{
     is_employer_kind, read_cno, read_employer_name, read_event_code, read_id, read_op,
     read_worker_name,
 };
+use rep_fields::{Cpf, Stamp, Text};
 
 /// The collector that is recorded with the clockings of an operator's lane: another device.
 const OTHER_COLLECTOR: u8 = 5;
@@ -117,14 +116,16 @@ fn read_employer(fields: Option<&[u8]>) -> Result<Ask, Fault>
     ensures asked { IfOk result (Asks Letter.Employer (fields_behind (option_copied fields.entry))) }
     ensures fault { IfErr result (IsFault Letter.Employer (fields_behind (option_copied fields.entry))) }
 {
-    let Some(EmployerFields {
-        resp,
-        kind,
-        id,
-        cno,
-        name,
-        place,
-    }) = six(fields)
+    let Some(
+        EmployerFields {
+            resp,
+            kind,
+            id,
+            cno,
+            name,
+            place,
+        },
+    ) = six(fields)
     else {
         return Err(Fault::Number);
     };
@@ -160,13 +161,15 @@ fn read_worker(fields: Option<&[u8]>) -> Result<Ask, Fault>
     ensures asked { IfOk result (Asks Letter.Worker (fields_behind (option_copied fields.entry))) }
     ensures fault { IfErr result (IsFault Letter.Worker (fields_behind (option_copied fields.entry))) }
 {
-    let Some(WorkerFields {
-        op,
-        cpf,
-        name,
-        extra,
-        resp,
-    }) = five(fields)
+    let Some(
+        WorkerFields {
+            op,
+            cpf,
+            name,
+            extra,
+            resp,
+        },
+    ) = five(fields)
     else {
         return Err(Fault::Number);
     };

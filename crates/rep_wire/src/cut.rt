@@ -57,7 +57,7 @@ pub fn two(fields: Option<&[u8]>) -> Option<(&[u8], &[u8])>
 pub fn three(fields: Option<&[u8]>) -> Option<(&[u8], &[u8], &[u8])>
     ensures { MatchOption result (length (fields_behind (option_copied fields.entry)) ≢ 3)
         (λ three. fields_behind (option_copied fields.entry)
-            ≡ three.0.now ∷ three.1.now ∷ three.2.now ∷ []) }
+        ≡ three.0.now ∷ three.1.now ∷ three.2.now ∷ []) }
 {
     let (first, rest) = next(fields)?;
     let (second, third) = two(rest)?;
@@ -77,7 +77,7 @@ pub struct WorkerFields<'a> {
 pub fn five(fields: Option<&[u8]>) -> Option<WorkerFields<'_>>
     ensures { MatchOption result (length (fields_behind (option_copied fields.entry)) ≢ 5)
         (λ five. fields_behind (option_copied fields.entry)
-            ≡ five.op.now ∷ five.cpf.now ∷ five.name.now ∷ five.extra.now ∷ five.resp.now ∷ []) }
+        ≡ five.op.now ∷ five.cpf.now ∷ five.name.now ∷ five.extra.now ∷ five.resp.now ∷ []) }
 {
     let (op, rest) = next(fields)?;
     let (cpf, rest) = next(rest)?;
@@ -105,7 +105,7 @@ pub struct EmployerFields<'a> {
 pub fn six(fields: Option<&[u8]>) -> Option<EmployerFields<'_>>
     ensures { MatchOption result (length (fields_behind (option_copied fields.entry)) ≢ 6)
         (λ six. fields_behind (option_copied fields.entry)
-            ≡ six.resp.now ∷ six.kind.now ∷ six.id.now ∷ six.cno.now ∷ six.name.now ∷ six.place.now ∷ []) }
+        ≡ six.resp.now ∷ six.kind.now ∷ six.id.now ∷ six.cno.now ∷ six.name.now ∷ six.place.now ∷ []) }
 {
     let (resp, rest) = next(fields)?;
     let (kind, rest) = next(rest)?;

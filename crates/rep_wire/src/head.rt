@@ -1,10 +1,9 @@
 ghost use Rattle.rep_fields.specs.Decoding.{Decodes};
 ghost use Rattle.rep_wire.specs.LaneGrammar.{IsLaneHead, head_text};
 
-use rep_fields::Text;
-
 use crate::cut::three;
 use crate::value::{read_kind, read_origin};
+use rep_fields::Text;
 
 /// The kind of an operator's lane.
 pub const OPERATOR: u8 = 0;

@@ -1,10 +1,9 @@
 ghost use Rattle.std.specs.Prelude.{◌≡◌, ◌↔◌, IsTrue};
 ghost use Rattle.rep_wire.specs.Made.{made_of, IsSame};
 
+use crate::request::{Ask, Entry, Request};
 use afd_records::{Body, Op};
 use rep_fields::{Cpf, EmployerId, Stamp, Text};
-
-use crate::request::{Ask, Entry, Request};
 
 /// The record that the request becomes when it is recorded at `t`. A clocking that wasn't kept offline is marked then,
 /// and an adjustment set the clock to that stamp.

@@ -1,7 +1,7 @@
-ghost use Rattle.std.specs.Prelude.{◌≡◌, IfOk, IfErr};
+ghost use Rattle.std.specs.Prelude.{◌≡◌, ◌≤◌, length, IfOk, IfErr};
 ghost use Rattle.std.specs.Option.{option_copied};
 ghost use Rattle.rep_wire.specs.Fields.{fields_behind};
-ghost use Rattle.rep_wire.specs.LaneGrammar.{IsLaneHead, Orders, IsMalformed};
+ghost use Rattle.rep_wire.specs.LaneGrammar.{IsLaneHead, Orders, IsMalformed, IsOffGrammar};
 ghost use Rattle.rep_wire.specs.Asking.{CutsSeq};
 ghost use Rattle.rep_wire.specs.declared.request.Order.{Order};
 
@@ -11,6 +11,7 @@ use crate::head::LaneHead;
 use crate::letter::letter_on;
 use crate::request::{Order, Request};
 use crate::value::read_seq;
+use rep_io::LONGEST_LINE;
 
 /// The field that is wrong where the number of fields is.
 const NUMBER: u8 = 0;
@@ -34,22 +35,30 @@ pub struct Malformed {
 ///
 /// # Errors
 ///
-/// `Malformed` exactly where the line orders nothing. Its field is 1 where the letter isn't known or isn't allowed on
-/// the lane, else 0 where the number of fields isn't the letter's, else the first field that isn't of its kind.
+/// `Malformed` exactly where the line orders nothing. A line of more than 512 bytes has the field 0 and the sequence
+/// number 0. Else the field is 1 where the letter isn't known or isn't allowed on the lane, 0 where the number of fields
+/// isn't the letter's, and else the first field that isn't of its kind.
 pub fn read_line(line: &[u8], head: &LaneHead) -> Result<Order, Malformed>
     requires { IsLaneHead head.now }
     ensures found { IfOk result (Orders head.now line.now) }
     ensures only { (order : Order) → Orders head.now line.now order → result ≡ Ok order }
     ensures malformed { IfErr result (IsMalformed head.now line.now) }
 {
+    if line.len() > LONGEST_LINE {
+        return Err(Malformed {
+            field: NUMBER,
+            seq: 0,
+        });
+    }
     order_or_fault(line, head)
 }
 
-// The order of the line, or what is wrong with it.
+// The order of a line that isn't too long, or what is wrong with it.
 fn order_or_fault(line: &[u8], head: &LaneHead) -> Result<Order, Malformed>
-    requires { IsLaneHead head.now }
+    requires head { IsLaneHead head.now }
+    requires short { length line.now ≤ LONGEST_LINE }
     ensures found { IfOk result (Orders head.now line.now) }
-    ensures malformed { IfErr result (IsMalformed head.now line.now) }
+    ensures off { IfErr result (IsOffGrammar head.now line.now) }
 {
     let (first, fields) = cut(line);
     let (seq, behind) = cut_seq(fields);

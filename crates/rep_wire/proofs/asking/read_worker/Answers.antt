@@ -12,9 +12,9 @@ returns-in_default-read_worker_name-clause-fault c =
     let whom : IsField cpf_field c.in-Some.field-0.cpf.now = (c.in-Some-read.cpf, c.in-Some-read.ensures.0, c.in-Some-read.ensures.1) in
     worker_fault _ c.in-Some.field-0.op.now c.in-Some.field-0.cpf.now c.in-Some.field-0.name.now c.in-Some.field-0.extra.now c.in-Some.field-0.resp.now 5 c.in-Some.ensures
     (off_behind done (off_behind whom (off_here (λ name.
-        let same : name.0 ≡ c.in-Some-read_op.op =
-            op_text-injective name.0 c.in-Some-read_op.op (sym name.2 ∙ c.in-Some-read_op.ensures.1) in
-        c.in_default-read_worker_name.ensures name.1 (subst (λ (op : Op). IsNameOfWorker op name.1) same name.3) name.4) refl)))
+    let same : name.0 ≡ c.in-Some-read_op.op =
+    op_text-injective name.0 c.in-Some-read_op.op (sym name.2 ∙ c.in-Some-read_op.ensures.1) in
+    c.in_default-read_worker_name.ensures name.1 (subst (λ (op : Op). IsNameOfWorker op name.1) same name.3) name.4) refl)))
 
 pub returns-clause-asked : goal.returns-clause-asked
 returns-clause-asked c =

@@ -18,21 +18,22 @@ returns-in_err-origin c =
     let P : Option LaneHead → Type 0 = λ result. Decodes IsLaneHead head_text c.args.line.now result in
     subst P (sym c.from_residual-in_err-origin.ensures)
     (λ head in_range is.
-        let fields = sym c.in_ok-first.ensures ∙ head_fields head c.args.line.now in_range is in
-        c.in_err-origin.ensures head.origin in_range.origin (ap (λ (fs : List (List ℕ)). get_or fs 1 []) fields))
+    let fields = sym c.in_ok-first.ensures ∙ head_fields head c.args.line.now in_range is in
+    c.in_err-origin.ensures head.origin in_range.origin (ap (λ (fs : List (List ℕ)). get_or fs 1 []) fields))
 
 pub returns-in_err-kind : goal.returns-in_err-kind
 returns-in_err-kind c =
     let P : Option LaneHead → Type 0 = λ result. Decodes IsLaneHead head_text c.args.line.now result in
     subst P (sym c.from_residual-in_err-kind.ensures)
     (λ head in_range is.
-        let fields = sym c.in_ok-first.ensures ∙ head_fields head c.args.line.now in_range is in
-        c.in_err-kind.ensures head.kind in_range.kind (ap (λ (fs : List (List ℕ)). get_or fs 2 []) fields))
+    let fields = sym c.in_ok-first.ensures ∙ head_fields head c.args.line.now in_range is in
+    c.in_err-kind.ensures head.kind in_range.kind (ap (λ (fs : List (List ℕ)). get_or fs 2 []) fields))
 
 pub returns : goal.returns
 returns c =
     let letter : c.in_ok-first.first.now ≡ codes "L" = search rules in
     let fields : fields_of c.args.line.now ≡ codes "L" ∷ decimal c.in_ok-origin.origin ∷ numeral 2 c.in_ok-kind.kind ∷ [] =
-        rw (← letter, ← c.in_ok-origin.ensures.1, ← c.in_ok-kind.ensures.1) c.in_ok-first.ensures in
-    (record { origin = c.in_ok-origin.ensures.0; kind = c.in_ok-kind.ensures.0; script = c.empty.ensures },
-    head_text-fields (record { origin = c.in_ok-origin.origin; kind = c.in_ok-kind.kind; script = c.empty.result }) c.args.line.now fields)
+    rw (← letter, ← c.in_ok-origin.ensures.1, ← c.in_ok-kind.ensures.1) c.in_ok-first.ensures in (
+      record { origin = c.in_ok-origin.ensures.0; kind = c.in_ok-kind.ensures.0; script = c.empty.ensures },
+      head_text-fields (record { origin = c.in_ok-origin.origin; kind = c.in_ok-kind.kind; script = c.empty.result }) c.args.line.now fields,
+    )

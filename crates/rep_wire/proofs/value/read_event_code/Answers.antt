@@ -17,5 +17,5 @@ returns c = λ code in_range is.
     let not_eight : c.args.text.now ≡ codes "08" → ⊥ = search rules in
     elim in_range [
       | inl seven ↦ not_seven (is ∙ ap (numeral 2) seven ∙ numeral-seven)
-    | inr eight ↦ not_eight (is ∙ ap (numeral 2) eight ∙ numeral-eight)
+      | inr eight ↦ not_eight (is ∙ ap (numeral 2) eight ∙ numeral-eight)
     ]

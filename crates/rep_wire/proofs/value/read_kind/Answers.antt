@@ -13,5 +13,5 @@ returns-then-kind-gt-LAST_KIND c = λ kind in_range is.
     let fits : c.in_ok-kind.kind < 100 = subst (λ (w : ℕ). c.in_ok-kind.kind < 10 ^ w) two read.0 in
     let written : c.args.text.now ≡ numeral 2 c.in_ok-kind.kind = read.1 ∙ ap (λ w. numeral w c.in_ok-kind.kind) two in
     let same : kind ≡ c.in_ok-kind.kind =
-        numeral-injective 2 kind c.in_ok-kind.kind (omega arith) fits (sym is ∙ written) in
+    numeral-injective 2 kind c.in_ok-kind.kind (omega arith) fits (sym is ∙ written) in
     omega arith
