@@ -1,10 +1,10 @@
 -- The hashes that the core keeps.
-use Rattle.std.proofs.Common.{◌≡◌, ℕ, suc, ◌+◌, ◌-◌, ◌<◌, ◌≤◌, ◌⊎◌, inl, inr, Bool, true, false, cond, List, [], ◌∷◌, ◌++◌, length, get_or, take, Option, Some, None, slice_get, refl, sym, ap, ◌∙◌, subst, arith, length-append}
+use Rattle.std.proofs.Common.{◌≡◌, ℕ, suc, ◌-◌, ◌<◌, ◌≤◌, inl, inr, Bool, true, false, cond, List, [], ◌∷◌, ◌++◌, length, get_or, take, Option, Some, None, slice_get, refl, sym, ap, ◌∙◌, subst, arith, length-append}
 use Rattle.std.specs.Option.{option_or}
 use Rattle.std.proofs.lemmas.Bool.{cases_lt}
 use Rattle.std.proofs.lemmas.List.{get_or_append_left, get_or_push, take-append-le, take_all}
 use Rattle.afd_records.specs.Record.{last_nsr, recorded_of, payload_text, HasText, IsClocking, is_clocking}
-use Rattle.afd_records.specs.Line.{record_text, hash_bytes, HasHash, IsHashText}
+use Rattle.afd_records.specs.Line.{record_text, hash_bytes, HasHash}
 use Rattle.afd_records.specs.declared.record.Body.{Body}
 use Rattle.afd_records.specs.declared.record.Body.TheVariants.{Employer, Adjust, Worker, Event, Clocking}
 use Rattle.afd_chain.specs.Chain.{sha_text}
@@ -15,9 +15,8 @@ use Rattle.rep_fields.specs.Moment.{Moment}
 use Rattle.rep_core.specs.History.{IsNumbered}
 use Rattle.rep_core.specs.Chained.{last_hash, next_hash, next_line, history_lines}
 use Rattle.rep_core.specs.Answered.{marked_in, hash_in, slip_of}
-use Rattle.rep_core.specs.Links.{hash_at, HasLines}
+use Rattle.rep_core.specs.Links.{hash_at}
 use Rattle.rep_core.specs.Hashes.{IsTip, hash_behind, linked, HasItsHash, AreHashes, IsInStep}
-use Rattle.rep_core.proofs.Numbered.{IsNumbered-at}
 use Rattle.rep_core.proofs.Lines.{hash_after, last_hash-push, last_hash-nil, next_hash-is, lines_of, record_text-hash}
 
 hash_bytes-tip : (tip : Option (List ℕ)) (hash : List ℕ) → IsTip tip hash → hash_bytes tip ≡ hash

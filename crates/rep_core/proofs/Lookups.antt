@@ -1,5 +1,5 @@
 -- Look-ups by a search through the list.
-use Rattle.std.proofs.Common.{◌≡◌, ℕ, suc, ◌+◌, ◌-◌, ◌<◌, ◌⊎◌, inl, inr, ltb, cond, Bool, true, false, ◌&&◌, ◌==◌, List, [], ◌∷◌, ◌++◌, length, get_or, take, drop, reverse, All, Option, Some, None, position, refl, sym, ap, ◌∙◌, subst, add-one, arith}
+use Rattle.std.proofs.Common.{◌≡◌, ℕ, suc, ◌+◌, ◌-◌, ◌<◌, inl, inr, ltb, cond, Bool, true, false, ◌&&◌, ◌==◌, List, [], ◌∷◌, length, get_or, take, drop, reverse, Some, None, position, sym, ap, ◌∙◌, subst, add-one, arith}
 use Rattle.std.proofs.lemmas.Bool.{false≢true, and_parts, and_from, eqb-true, eq-eqb, cases_lt, lt-ltb}
 use Rattle.std.proofs.lemmas.List.{get_or-take, get_or-drop, get_or-reverse, length-reverse, length-take-le, length-drop}
 use Rattle.std.proofs.lemmas.List.Quantifiers.{position-Some}
@@ -8,7 +8,7 @@ use Rattle.std.specs.List.{position_or_len}
 use Rattle.afd_records.specs.declared.record.Body.{Body}
 use Rattle.afd_records.specs.declared.record.Body.TheVariants.{Employer, Adjust, Worker, Event, Clocking}
 use Rattle.rep_wire.specs.declared.request.Entry.{Entry}
-use Rattle.rep_core.specs.History.{IsNumbered, CameBy, IsFound, IsNew, IsEmployer, IsLastEmployer}
+use Rattle.rep_core.specs.History.{CameBy, IsFound, IsNew, IsEmployer, IsLastEmployer}
 use Rattle.rep_core.specs.Lookup.{is_employer, FindsPair, FindsEmployer}
 use Rattle.rep_core.proofs.Splits.{split_of}
 

@@ -1,9 +1,9 @@
 -- Entries by their numbers.
-use Rattle.std.proofs.Common.{◌≡◌, ℕ, suc, ◌+◌, ◌-◌, ◌<◌, ◌≤◌, ◌⊎◌, inl, inr, List, [], ◌∷◌, ◌++◌, length, get_or, take, drop, All, Option, Some, None, slice_get, refl, sym, ap, ◌∙◌, subst, arith, length-append}
-use Rattle.std.proofs.lemmas.List.{length-take-le, get_or-take}
+use Rattle.std.proofs.Common.{◌≡◌, ℕ, suc, ◌-◌, ◌<◌, ◌≤◌, inl, inr, List, [], ◌∷◌, ◌++◌, length, get_or, take, drop, All, refl, sym, ap, ◌∙◌, subst, arith}
+use Rattle.std.proofs.lemmas.List.{length-take-le}
 use Rattle.std.proofs.lemmas.Bool.{cases_order}
 use Rattle.rep_wire.specs.declared.request.Entry.{Entry}
-use Rattle.rep_core.specs.History.{IsNumbered, CameBy, IsFound, IsNew, IsEmployer, IsLastEmployer}
+use Rattle.rep_core.specs.History.{IsNumbered, CameBy, IsFound, IsNew}
 use Rattle.rep_core.proofs.Splits.{split_at, split_before, split_in, split_of}
 
 -- the entry at each place has the next number

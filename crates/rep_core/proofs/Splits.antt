@@ -1,6 +1,6 @@
 -- Lists that are split at an element.
-use Rattle.std.proofs.Common.{◌≡◌, ℕ, suc, ◌+◌, ◌<◌, ◌⊎◌, inl, inr, List, [], ◌∷◌, ◌++◌, length, get_or, take, drop, refl, sym, ap, ◌∙◌, arith, length-append, take-append-drop, append_assoc}
-use Rattle.std.proofs.lemmas.List.{get_or_at, get_or-take, get_or_append_left, take-append-le, take_at, append-nil}
+use Rattle.std.proofs.Common.{◌≡◌, ℕ, suc, ◌<◌, ◌⊎◌, inl, inr, List, [], ◌∷◌, ◌++◌, length, get_or, take, drop, refl, sym, ap, ◌∙◌, arith, length-append, take-append-drop, append_assoc}
+use Rattle.std.proofs.lemmas.List.{get_or_at, get_or_append_left, take_at}
 use Rattle.std.proofs.Math.Seq.{drop-cons}
 
 -- the element stands at its place

@@ -1,13 +1,13 @@
 -- Valid and founded histories, one entry on.
-use Rattle.std.proofs.Common.{◌≡◌, ℕ, ◌⊎◌, inl, inr, List, [], ◌∷◌, ◌++◌, refl, sym, ap, subst}
+use Rattle.std.proofs.Common.{◌≡◌, inl, inr, List, [], ◌∷◌, ◌++◌, refl, subst}
 use Rattle.rep_fields.specs.Moment.{Moment, IsMoment}
 use Rattle.afd_records.specs.Record.{last_nsr}
 use Rattle.rep_wire.specs.Request.{IsRequest, IsFounding}
 use Rattle.rep_wire.specs.declared.request.Request.{Request}
 use Rattle.rep_wire.specs.declared.request.Entry.{Entry}
 use Rattle.rep_core.specs.Verdict.{IsVerdict}
-use Rattle.rep_core.specs.Answered.{entry_of, recorded_after}
-use Rattle.rep_core.specs.Valid.{Fits, Founds, IsValid, IsFounded}
+use Rattle.rep_core.specs.Answered.{entry_of}
+use Rattle.rep_core.specs.Valid.{Fits, IsValid, IsFounded}
 use Rattle.rep_core.specs.declared.verdict.Verdict.TheVariants.{Fresh}
 use Rattle.rep_core.proofs.Splits.{split_push}
 

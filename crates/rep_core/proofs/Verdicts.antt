@@ -1,11 +1,10 @@
 -- Verdicts over a history.
-use Rattle.std.proofs.Common.{◌≡◌, ℕ, suc, ◌+◌, ◌<◌, ◌≤◌, List, [], ◌∷◌, ◌++◌, length, Option, Some, None, refl, sym, ap, subst, arith, length-append}
+use Rattle.std.proofs.Common.{◌≡◌, ℕ, suc, ◌≤◌, List, [], ◌∷◌, length, Some, None, refl, sym, ap, subst, arith, length-append}
 use Rattle.rep_fields.specs.Moment.{Moment}
 use Rattle.rep_wire.specs.Made.{made_of, IsSame}
 use Rattle.rep_wire.specs.declared.request.Ask.{Ask}
 use Rattle.rep_wire.specs.declared.request.Ask.TheVariants.{Mark, Employer, Worker, Adjust, Event}
 use Rattle.rep_wire.specs.declared.request.Request.{Request}
-use Rattle.rep_core.specs.History.{IsFound, IsNew}
 use Rattle.rep_core.specs.Verdict.{IsVerdict}
 use Rattle.rep_core.specs.Answered.{entry_of, recorded_after}
 use Rattle.rep_core.specs.declared.verdict.Verdict.{Verdict}

@@ -1,5 +1,5 @@
 -- How a history goes on by a request, and what the request is answered: this project's own.
-use Rattle.std.specs.Prelude.{◌≡◌, ℕ, Bool, true, false, if◌then◌else◌, List, [], ◌∷◌, ◌++◌, length, take, Option, Some, None}
+use Rattle.std.specs.Prelude.{◌≡◌, ℕ, List, [], ◌∷◌, ◌++◌, length, take, Option, Some, None}
 use Rattle.rep_fields.specs.Moment.{Moment}
 use Rattle.afd_records.specs.Record.{recorded_of}
 use Rattle.afd_records.specs.declared.record.Body.{Body}
@@ -7,7 +7,6 @@ use Rattle.afd_records.specs.declared.record.Body.TheVariants as body
 use Rattle.rep_wire.specs.Made.{made_of}
 use Rattle.rep_wire.specs.declared.request.Request.{Request}
 use Rattle.rep_wire.specs.declared.request.Entry.{Entry}
-use Rattle.rep_wire.specs.declared.reply.Code.{Code}
 use Rattle.rep_wire.specs.declared.reply.Code.TheVariants as code
 use Rattle.rep_wire.specs.declared.reply.Slip.{Slip}
 use Rattle.rep_wire.specs.declared.reply.Answer.{Answer}
@@ -16,8 +15,7 @@ use Rattle.rep_wire.specs.declared.reply.Reply.{Reply}
 use Rattle.rep_core.specs.History.{IsNumbered}
 use Rattle.rep_core.specs.Chained.{last_hash}
 use Rattle.rep_core.specs.Verdict.{IsVerdict}
-use Rattle.rep_core.specs.declared.verdict.Verdict.{Verdict}
-use Rattle.rep_core.specs.declared.verdict.Verdict.TheVariants.{Repeat, Conflict, Unregistered, Exhausted, Fresh}
+use Rattle.rep_core.specs.declared.verdict.Verdict.TheVariants.{Repeat, Conflict, Unregistered, Exhausted}
 
 -- the entry that a request becomes at a stamp
 abbrev pub entry_of : Request → Moment → Entry

@@ -1,6 +1,6 @@
 -- The hash chain and the lines of a history. A clocking's hash is over its payload and the hash of the last clocking
 -- before it, of whatever worker, and over no other kind of record: this project's own.
-use Rattle.std.specs.Prelude.{ℕ, suc, ◌+◌, Bool, if◌then◌else◌, List, [], ◌∷◌, ◌++◌, length, reverse}
+use Rattle.std.specs.Prelude.{ℕ, suc, if◌then◌else◌, List, [], ◌∷◌, ◌++◌, length, reverse}
 use Rattle.afd_records.specs.Record.{payload_text, is_clocking}
 use Rattle.afd_records.specs.Line.{record_text}
 use Rattle.afd_records.specs.declared.record.Body.{Body}

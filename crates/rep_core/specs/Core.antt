@@ -1,5 +1,5 @@
 -- What the recorder's core keeps, and which history it stands for.
-use Rattle.std.specs.Prelude.{◌≡◌, ℕ, ◌+◌, ◌<◌, ◌≤◌, List, length}
+use Rattle.std.specs.Prelude.{◌≡◌, ℕ, ◌≤◌, List}
 use Rattle.afd_records.specs.Record.{last_nsr}
 use Rattle.rep_wire.specs.declared.request.Request.{Request}
 use Rattle.rep_wire.specs.declared.request.Entry.{Entry}

@@ -1,9 +1,7 @@
 -- The history of a recorder: a list of entries, of which the one at place i, counted from 0, has the number i + 1.
 -- What it says of a worker and of the employer is found by a search through the list.
-use Rattle.std.specs.Prelude.{◌≡◌, ◌≢◌, ℕ, suc, ◌+◌, ◌-◌, ◌<◌, ◌==◌, Bool, true, false, ◌&&◌, if◌then◌else◌, List, [], ◌∷◌, ◌++◌, length, map, Option, Some, None, All}
-use Rattle.rep_fields.specs.Moment.{Moment}
+use Rattle.std.specs.Prelude.{◌≡◌, ℕ, suc, ◌==◌, if◌then◌else◌, List, [], ◌∷◌, ◌++◌, length, map, Option, Some, None, All}
 use Rattle.afd_records.specs.Record.{recording_day_of}
-use Rattle.afd_records.specs.declared.record.Op.{Op}
 use Rattle.afd_records.specs.declared.record.Body.{Body}
 use Rattle.afd_records.specs.declared.record.Body.TheVariants.{Employer, Adjust, Worker, Event, Clocking}
 use Rattle.rep_wire.specs.declared.request.Entry.{Entry}

@@ -1,5 +1,5 @@
 -- The hash chain as a relation between the clockings of a history, and the lines by their numbers: this project's own.
-use Rattle.std.specs.Prelude.{◌≡◌, ℕ, suc, ◌-◌, ◌<◌, List, ◌++◌, length, take, slice_get, Some}
+use Rattle.std.specs.Prelude.{◌≡◌, ℕ, ◌-◌, ◌<◌, List, ◌++◌, length, take, slice_get, Some}
 use Rattle.afd_records.specs.Record.{payload_text, IsClocking}
 use Rattle.afd_records.specs.Line.{record_text}
 use Rattle.afd_chain.specs.Chain.{sha_text}

@@ -1,5 +1,5 @@
 -- Which histories a recorder can have: this project's own.
-use Rattle.std.specs.Prelude.{◌≡◌, ℕ, ◌⊎◌, List, [], ◌∷◌, ◌++◌}
+use Rattle.std.specs.Prelude.{◌≡◌, List, [], ◌∷◌, ◌++◌}
 use Rattle.rep_fields.specs.Moment.{Moment, IsMoment}
 use Rattle.afd_records.specs.Record.{last_nsr}
 use Rattle.rep_wire.specs.Request.{IsRequest, IsFounding}

@@ -1,6 +1,6 @@
 -- What the recorder makes of a request, over a history and a limit of numbers: the first case that holds, by a search
 -- through the list. This project's own.
-use Rattle.std.specs.Prelude.{◌≡◌, ℕ, ◌<◌, ◌≤◌, Bool, true, false, List, Option, Some, None, length}
+use Rattle.std.specs.Prelude.{ℕ, ◌<◌, ◌≤◌, List, Option, Some, None, length}
 use Rattle.std.specs.Prelude.{◌≤ℤ◌}
 use Rattle.rep_fields.specs.Moment.{Moment, instant_of}
 use Rattle.afd_records.specs.declared.record.Op.{Op}

@@ -1,4 +1,4 @@
-use Rattle.std.proofs.Common.{◌≡◌, length, ap, ◌∙◌, sym, subst}
+use Rattle.std.proofs.Common.{length, ap, ◌∙◌, sym, subst}
 use Rattle.afd_records.specs.Record.{IsClocking}
 use Rattle.rep_core.proofs.Payloads.{length-payload_text}
 use Rattle.rep_core.proofs.recorder.hash_of.Goals as goal

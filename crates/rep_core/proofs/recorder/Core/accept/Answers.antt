@@ -1,4 +1,4 @@
-use Rattle.std.proofs.Common.{◌≡◌, ◌++◌, [], ◌∷◌, List, ap, sym, ◌∙◌}
+use Rattle.std.proofs.Common.{◌≡◌, ◌++◌, [], ◌∷◌, ap, sym, ◌∙◌}
 use Rattle.rep_wire.specs.declared.request.Entry.{Entry}
 use Rattle.afd_records.specs.declared.record.Body.{Body}
 use Rattle.rep_core.proofs.Standing.{Stands-own, entries_of}

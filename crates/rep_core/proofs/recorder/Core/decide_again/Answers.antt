@@ -1,4 +1,4 @@
-use Rattle.std.proofs.Common.{Some, subst, refl}
+use Rattle.std.proofs.Common.{subst}
 use Rattle.std.proofs.lemmas.Bool.{iff_false}
 use Rattle.rep_core.specs.History.{IsFound}
 use Rattle.rep_core.specs.Lookup.{FindsPair}

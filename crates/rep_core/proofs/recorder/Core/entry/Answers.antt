@@ -1,4 +1,4 @@
-use Rattle.std.proofs.Common.{◌≡◌, ◌≤◌, length, ap, refl, subst, sym, ◌∙◌}
+use Rattle.std.proofs.Common.{◌≤◌, length, ap, refl, subst, sym, ◌∙◌}
 use Rattle.rep_core.specs.Core.{Kept}
 use Rattle.rep_core.proofs.Standing.{Stands-own, entries_of}
 use Rattle.rep_core.proofs.Numbered.{IsNumbered-at}

@@ -1,4 +1,4 @@
-use Rattle.std.proofs.Common.{◌≡◌, List, Some, None, position, ap, sym, subst, ◌∙◌}
+use Rattle.std.proofs.Common.{List, position, ap, sym, ◌∙◌}
 use Rattle.rep_wire.specs.declared.request.Entry.{Entry}
 use Rattle.rep_core.specs.Core.{Kept}
 use Rattle.rep_core.proofs.Standing.{entries_of}

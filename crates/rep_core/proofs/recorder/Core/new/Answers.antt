@@ -1,5 +1,3 @@
-use Rattle.std.proofs.Common.{sym, subst}
-use Rattle.rep_core.specs.Hashes.{IsInStep}
 use Rattle.rep_core.proofs.Hashes.{IsInStep-empty}
 use Rattle.rep_core.proofs.recorder.Core.new.Goals as goal
 
