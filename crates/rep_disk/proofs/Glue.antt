@@ -8,17 +8,17 @@ use Rattle.std.proofs.lemmas.Bool.Decides.{nat_tests}
 use Rattle.rep_io.specs.Causes.{last_count, HasCause}
 use Rattle.rep_io.specs.declared.cause.Failed.{Failed}
 use Rattle.rep_disk.specs.Disk.{Same, Moves, Torn, CutBetween, Writes, Cuts, last_moment}
-use Rattle.rep_disk.specs.Record.{Made, Put, Shorten, over, changed}
+use Rattle.rep_disk.specs.Record.{Made, Step, Put, Shorten, over, changed}
 use Rattle.rep_disk.specs.Memory.{Memory, Counts, Listed, IsSound, fresh, memory_shown, counted, state_at}
 use Rattle.rep_disk.specs.Fields.{memory_of, IsKept, log_of, made_of, size_of_all}
 use Rattle.rep_disk.specs.Calls.{Goes, Looks, WritesAt, CutsAt, Syncs}
-use Rattle.rep_disk.specs.Changes.{MakesSure, made_sure}
+use Rattle.rep_disk.specs.Changes.{MakesSure, made_sure, noted, secured}
 use Rattle.rep_disk.specs.declared.mem_disk.MemDisk.TheInside.{Inside}
 use Rattle.rep_disk.specs.declared.mem_disk.Calls.{Calls}
 use Rattle.rep_disk.specs.declared.change.Change.{Change}
 use Rattle.rep_disk.specs.declared.change.Kind.TheVariants.{Write, Cut}
 use Rattle.rep_disk.proofs.Replay.{IsStepOf, sound_rest}
-use Rattle.rep_disk.proofs.Keeping.{Idles, Makes, Secures, secured, own_both, idle_sound, idle_stays, stays_moves, made_sound, made_moves, secure_sound, secure_rest, secure_moves}
+use Rattle.rep_disk.proofs.Keeping.{Idles, Makes, Secures, own_both, idle_sound, idle_stays, stays_moves, made_sound, made_moves, secure_sound, secure_rest, secure_moves}
 use Rattle.rep_disk.proofs.Log.{log_snoc, size_snoc, log_last}
 
 pub faults_after : (before now : ℕ) (fails : Bool) → now ≡ cond fails (counted before) before → before ≤ last_count → (before ≤ now) × (now ≤ last_count)
@@ -74,6 +74,8 @@ module _ (a : Inside) (moment faults : ℕ) (calls : Calls) (fails : Bool) (kept
     bytes = refl;
     spare = omega arith;
     crash = idle_stays (memory_of a) (memory_of idle) idles kept.sound;
+    first = refl;
+    log = refl;
   })
 
   -- a sync that failed leaves what was pending as it was
@@ -83,6 +85,8 @@ module _ (a : Inside) (moment faults : ℕ) (calls : Calls) (fails : Bool) (kept
     bytes = refl;
     spare = omega arith;
     crash = stays_moves Same (memory_of a) (memory_of idle) (λ image. refl) (idle_stays (memory_of a) (memory_of idle) idles kept.sound);
+    first = refl;
+    log = refl;
   })
 
 -- a disk with spare room has its own copy of its first bytes
@@ -156,12 +160,18 @@ pub record Wrote (a b : Inside) (at : ℕ) (piece : List ℕ) (begun : ℕ) (fai
   pub copied : b.is_copied ≡ a.is_copied
 
 module _ (a b : Inside) (at : ℕ) (piece : List ℕ) (begun : ℕ) (fails : Bool) (kept : IsKept a) (w : Wrote a b at piece begun fails) (within : at ≤ length a.bytes.items) where
+  -- the record after a write of something
+  abbrev with_noted : Bool → List Made
+  with_noted failed = (memory_of a).log ++ noted a.moment (Put at piece) failed ∷ []
+
   -- how the write goes on: the record is sound, and the images move
   record WriteGoes : Type 0 where
     sound : IsSound (memory_of b)
     moves : Moves (Torn at (length piece)) (memory_shown (memory_of a)) (memory_shown (memory_of b))
     pieces : size_of_all b.log.items ≡ length b.pieces.items
     untouched : b.is_copied ≡ false → (b.log.items ≡ []) × (b.spare ≡ 0) × (b.first.items ≡ [])
+    first : (memory_of b).first ≡ (memory_of a).first
+    log : (memory_of b).log ≡ cond (nat_eq (length piece) 0) (memory_of a).log (with_noted fails)
 
   faults_fit : b.faults ≤ last_count
   faults_fit = (faults_after a.faults b.faults fails w.faults kept.sound.faults_in_range).1
@@ -191,6 +201,8 @@ module _ (a b : Inside) (at : ℕ) (piece : List ℕ) (begun : ℕ) (fails : Boo
         moves = stays_moves (Torn at (length piece)) (memory_of a) (memory_of b) (torn_same at (length piece)) stays;
         pieces = ap size_of_all log ∙ kept.pieces ∙ sym (ap length pieces);
         untouched = (λ not. let u = kept.untouched (sym w.copied ∙ not) in (log ∙ u.0, (let z : a.spare ≡ 0 = u.1 in let s = w.spare in omega arith), w.first ∙ u.2));
+        first = idles.first;
+        log = idles.log ∙ sym (ap (λ (c : Bool). cond c (memory_of a).log (with_noted fails)) (is_zero (length piece) e));
       }
     where
       same_cond : (f : Bool) → piece ≡ [] → cond f a.bytes.items (over at piece a.bytes.items) ≡ a.bytes.items
@@ -230,6 +242,10 @@ module _ (a b : Inside) (at : ℕ) (piece : List ℕ) (begun : ℕ) (fails : Boo
         moves = made_moves (Put at piece) fails (memory_of a) (memory_of b) makes kept.sound inside;
         pieces = ap size_of_all log ∙ size_snoc a.log.items (record { begun = begun; synced = None; kind = Write at (length piece); failed = fails }) ∙ ap (λ (n : ℕ). n + length piece) kept.pieces ∙ sym (length-append a.pieces.items piece) ∙ sym (ap length w.pieces);
         untouched = (λ not. let both : false ≡ true = sym not ∙ (w.copied ∙ copied) in absurd (cc));
+        first = makes.first;
+        log = made
+            ∙ ap (λ (n : ℕ). (memory_of a).log ++ record { begun = n; synced = None; step = Put at piece; failed = fails } ∷ []) w.begins
+            ∙ sym (ap (λ (c : Bool). cond c (memory_of a).log (with_noted fails)) (not_zero (length piece) more));
       }
     where
       not_zero : (n : ℕ) → 0 < n → nat_eq n 0 ≡ false
@@ -273,6 +289,8 @@ module _ (a b : Inside) (at : ℕ) (piece : List ℕ) (begun : ℕ) (fails : Boo
         unchanged = unchanged_when a.bytes.items b.bytes.items (over at piece a.bytes.items) fails result answered w.bytes;
         spare = omega arith;
         crash = g.moves;
+        first = g.first;
+        log = g.log ∙ ap (λ (f : Bool). cond (nat_eq (length piece) 0) (memory_of a).log (with_noted f)) (sym answered);
       })
 
 -- what a cut does to the fields
@@ -343,6 +361,10 @@ module _ (a b : Inside) (size begun : ℕ) (fails : Bool) (kept : IsKept a) (w :
         unchanged = unchanged_when a.bytes.items b.bytes.items (take size a.bytes.items) fails result answered w.bytes;
         spare = omega arith;
         crash = made_moves (Shorten size) fails (memory_of a) (memory_of b) cut_makes kept.sound tt;
+        first = cut_makes.first;
+        log = cut_makes.log
+            ∙ ap (λ (n : ℕ). (memory_of a).log ++ record { begun = n; synced = None; step = Shorten size; failed = fails } ∷ []) cut_makes.begins
+            ∙ ap (λ (f : Bool). (memory_of a).log ++ noted a.moment (Shorten size) f ∷ []) (sym answered);
       })
 
 -- A sync that succeeds.
@@ -392,6 +414,8 @@ module _ (a : Inside) (log : Vec Change Global) (moment faults : ℕ) (calls : C
     bytes = refl;
     spare = omega arith;
     crash = secure_moves (memory_of a) (memory_of after) secures kept.sound;
+    first = refl;
+    log = secures.log;
   })
 
 -- a disk that was just made

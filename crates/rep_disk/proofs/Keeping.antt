@@ -5,7 +5,7 @@ use Rattle.std.proofs.lemmas.Bool.{cases_lt}
 use Rattle.rep_disk.specs.Disk.{Moves, Stays, Same, IsAtRest, IsOwnImage, last_moment}
 use Rattle.rep_disk.specs.Record.{Made, State, Step, IsImage, IsSoundState, IsDated, at_rest, changed, reached, replay}
 use Rattle.rep_io.specs.Causes.{last_count}
-use Rattle.rep_disk.specs.Changes.{first_sync}
+use Rattle.rep_disk.specs.Changes.{first_sync, secured, Secured}
 use Rattle.rep_disk.specs.Memory.{Memory, IsSound, state_at, memory_shown}
 use Rattle.rep_disk.proofs.Cells.{fits_only}
 use Rattle.rep_disk.proofs.Replay.{reached_not, reached_is, settled_not, settled_is, replay_snoc, replay_dated, dated_later, dated_snoc, dated_front, dated_last, sound_changed, sound_rest, own_image, IsStepOf, AltersImage, image_changed}
@@ -121,15 +121,12 @@ module _ (step : Step) (failed : Bool) (old new : Memory) (makes : Makes step fa
 
 -- A sync that succeeds.
 
-abbrev pub secured : ℕ → Made → Made
-secured t made = record { begun = made.begun; synced = first_sync t made.synced; step = made.step; failed = made.failed }
-
 pub record Secures (old new : Memory) : Type 0 where
   pub bytes : new.bytes ≡ old.bytes
   pub first : new.first ≡ old.first
   pub moment : new.moment ≡ min (old.moment + 2) last_moment
   pub faults : new.faults ≤ last_count
-  pub log : ((old.log ≡ []) × (new.log ≡ [])) ⊎ ((front : List Made) × (last : Made) × (old.log ≡ front ++ last ∷ []) × (new.log ≡ front ++ secured new.moment last ∷ []))
+  pub log : Secured new.moment old.log new.log
 
 -- before the sync's end the states are as they were, and from there on there is one image
 record IsSecured (old new : Memory) : Type 0 where
