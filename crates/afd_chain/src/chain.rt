@@ -14,7 +14,7 @@ pub const PAYLOAD_LEN: usize = 73;
 /// of the hash of the clocking before. `prev` is `None` for the first clocking. The hash is given in 64 lower-case
 /// hexadecimal digits.
 pub fn link(prev: Option<&[u8; 64]>, line73: &[u8]) -> [u8; 64]
-    requires { length line73.now ≡ PAYLOAD_LEN }
+    requires { length line73.now ≡ 73 }
     ensures value { result ≡ link_text line73.now (option_copied prev.entry) }
     ensures lower { IsHashText result }
 {
@@ -30,8 +30,8 @@ pub fn link(prev: Option<&[u8; 64]>, line73: &[u8]) -> [u8; 64]
 /// line may be in upper or lower case; those of `prev` are hashed as they stand.
 pub fn verify(prev: Option<&[u8; 64]>, line: &[u8]) -> bool
     requires { length line.now ≡ CLOCKING_LEN }
-    ensures { IsTrue result ↔ (str_to_ascii_lowercase (drop PAYLOAD_LEN line.now)
-        ≡ link_text (take PAYLOAD_LEN line.now) (option_copied prev.entry)) }
+    ensures { IsTrue result ↔ (str_to_ascii_lowercase (drop 73 line.now)
+        ≡ link_text (take 73 line.now) (option_copied prev.entry)) }
 {
     let (payload, hash) = line.split_at(PAYLOAD_LEN);
     hash.eq_ignore_ascii_case(&link(prev, payload))
