@@ -13,12 +13,15 @@ ghost use Rattle.rep_top.specs.Printing.{IsPrintHead};
 ghost use Rattle.rep_top.specs.Writing.{HasEmployer, WritesAfd};
 
 use afd_records::{
-    Body, Head, LONGEST_LINE, Trailer, print_head, print_trailer, recorded, signature,
+    Body, EMPLOYER_LEN, Head, Trailer, print_head, print_trailer, recorded, signature,
 };
 use rep_core::Core;
 use rep_fields::{Day, RepNumber, Row, Stamp, Text};
 use rep_io::{Sink, SinkFault, put_all};
 use rep_wire::Entry;
+
+/// No line of an AFD is longer than an employer's record.
+const LONGEST_LINE: usize = EMPLOYER_LEN;
 
 /// How many bytes are held before they are written.
 const BUFFER_LEN: usize = 8192;
