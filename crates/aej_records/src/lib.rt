@@ -1,0 +1,26 @@
+//! The lines of an AEJ, the electronic file of working days that a treatment program hands to the inspection: Portaria
+//! MTP 671/2021, annex VI (version 001).
+//!
+//! A line is an [`AejLine`]; [`print`] writes it, and [`read`] reads it, and other spellings of the same values too. No
+//! function here takes memory, and no line has its end, CR LF, here.
+//!
+//! ```rust
+//! let text = aej_records::print(&line);
+//! let found = aej_records::read(text.bytes())?;
+//! ```
+#![tactic(auto)]
+
+mod error;
+mod fields;
+mod kind;
+mod line;
+mod reading;
+mod times;
+mod value;
+mod writing;
+
+pub use error::BadAej;
+pub use line::AejLine;
+pub use reading::read;
+pub use times::{MOST_TIMES, Times};
+pub use writing::print;

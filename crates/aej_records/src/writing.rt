@@ -1,0 +1,312 @@
+ghost use Rattle.std.specs.Prelude.{◌≡◌, ℕ, ◌≤◌, ◌+◌, ◌++◌, ◌∷◌, [], length, map, codes, decimal, All, Option, Some, None, IfSome};
+ghost use Rattle.rep_fields.specs.Calendar.{day_text};
+ghost use Rattle.rep_fields.specs.Digits.{numeral};
+ghost use Rattle.rep_fields.specs.Employer.{IsEmployerId, kind_byte};
+ghost use Rattle.rep_fields.specs.Identity.{bar, cpf_text};
+ghost use Rattle.rep_fields.specs.Moment.{hours_text, moment_text};
+ghost use Rattle.aej_records.specs.Line.{HasText, IsPair, IsCount};
+ghost use Rattle.aej_records.specs.Text.{line_text, owner_text, optional_text, behind_bars};
+
+use crate::fields::BAR;
+use crate::line::AejLine;
+use crate::times::Times;
+use rep_fields::{Cpf, Day, EmployerId, RepNumber, Row, Stamp, Text, write_time_of_day};
+use rep_io::Piece;
+
+/// No line that is written is longer.
+const LONGEST: usize = 384;
+
+/// No two digits of a type are longer.
+const TYPE_LEN: usize = 2;
+
+/// The most bytes of a number of 32 bits with the bar before it.
+const NUMBER_LEN: usize = 11;
+
+/// The line, without its end.
+///
+/// Numbers have no zeros in front but for that of a pair, which has three digits. A line whose last field is empty ends
+/// with the separator before it.
+pub fn print(line: &AejLine) -> Piece
+    requires { HasText line.now }
+    ensures { result ≡ line_text line.now }
+{
+    match Piece::make(row_of(line).bytes()) {
+        Some(piece) => piece,
+        None => unreachable!(),
+    }
+}
+
+// The fields of a line in a row.
+#[tactic(auto, unfolding(crate::specs::Text::line_text))]
+fn row_of(line: &AejLine) -> Row<LONGEST>
+    requires { HasText line.now }
+    ensures { result ≡ line_text line.now }
+{
+    let mut row = Row::new();
+    match line {
+        AejLine::Head {
+            id,
+            caepf,
+            cno,
+            name,
+            first,
+            last,
+            made,
+        } => {
+            row.push_bytes(b"01");
+            put_employer(&mut row, id, caepf, cno, name);
+            put_period(&mut row, first, last, made);
+        }
+        AejLine::Rep { id, kind, number } => {
+            row.push_bytes(b"02");
+            put_number(&mut row, *id);
+            put_number(&mut row, u32::from(*kind));
+            put_field(&mut row, number.bytes());
+        }
+        AejLine::Link { id, cpf, name } => {
+            row.push_bytes(b"03");
+            put_number(&mut row, *id);
+            put_field(&mut row, &cpf.write());
+            put_field(&mut row, name.bytes());
+        }
+        AejLine::Schedule {
+            code,
+            minutes,
+            times,
+        } => {
+            row.push_bytes(b"04");
+            put_field(&mut row, code.bytes());
+            put_number(&mut row, *minutes);
+            put_times(&mut row, times);
+        }
+        AejLine::Mark {
+            link,
+            at,
+            rep,
+            mark,
+            pair,
+            source,
+            schedule,
+            reason,
+        } => {
+            row.push_bytes(b"05");
+            put_moment(&mut row, *link, at, *rep, *mark);
+            put_origin(&mut row, *pair, *source, schedule, reason);
+        }
+        AejLine::Registration { link, number } => {
+            row.push_bytes(b"06");
+            put_number(&mut row, *link);
+            put_field(&mut row, number.bytes());
+        }
+        AejLine::Absence {
+            link,
+            kind,
+            date,
+            minutes,
+            movement,
+        } => {
+            row.push_bytes(b"07");
+            put_absence(&mut row, *link, *kind, date, *minutes, *movement);
+        }
+        AejLine::Program {
+            name,
+            version,
+            developer,
+            developer_name,
+            email,
+        } => {
+            row.push_bytes(b"08");
+            put_program(&mut row, name, version, developer, developer_name, email);
+        }
+        AejLine::Counts { counts } => {
+            row.push_bytes(b"99");
+            put_counts(&mut row, counts);
+        }
+    }
+    row
+}
+
+// The employer in a head.
+fn put_employer(
+    row: &mut Row<LONGEST>,
+    id: &EmployerId,
+    caepf: &Text<14>,
+    cno: &Text<14>,
+    name: &Text<150>,
+)
+    requires room { length row.old ≤ TYPE_LEN }
+    requires id { IsEmployerId id.now }
+    ensures value { row.new ≡ row.old ++ behind_bars ((kind_byte id.now ∷ []) ∷ owner_text id.now ∷ caepf.now ∷ cno.now
+        ∷ name.now ∷ []) }
+    ensures len { length row.new ≤ length row.old + 198 }
+{
+    put_owner(row, id);
+    put_field(row, caepf.bytes());
+    put_field(row, cno.bytes());
+    put_field(row, name.bytes());
+}
+
+// The period of a head, when the file was made, and the version of its layout.
+fn put_period(row: &mut Row<LONGEST>, first: &Day, last: &Day, made: &Stamp)
+    requires room { length row.old + 51 ≤ LONGEST }
+    ensures value { row.new ≡ row.old ++ behind_bars (day_text first.now ∷ day_text last.now ∷ moment_text made.now ∷ codes "001" ∷ []) }
+{
+    put_field(row, &first.write());
+    put_field(row, &last.write());
+    put_field(row, &made.write());
+    put_field(row, b"001");
+}
+
+// What a mark is, and when.
+fn put_moment(row: &mut Row<LONGEST>, link: u32, at: &Stamp, rep: Option<u32>, mark: u8)
+    requires { length row.old ≤ TYPE_LEN }
+    ensures value { row.new ≡ row.old ++ behind_bars (decimal link ∷ moment_text at.now ∷ optional_text decimal rep ∷ (mark ∷ []) ∷ []) }
+    ensures len { length row.new ≤ length row.old + 49 }
+{
+    put_number(row, link);
+    put_field(row, &at.write());
+    put_optional(row, rep);
+    put_letter(row, mark);
+}
+
+// Where a mark belongs, and where it comes from.
+fn put_origin(
+    row: &mut Row<LONGEST>,
+    pair: Option<u16>,
+    source: u8,
+    schedule: &Text<30>,
+    reason: &Text<150>,
+)
+    requires room { length row.old + 188 ≤ LONGEST }
+    requires pair { IfSome pair IsPair }
+    ensures { row.new ≡ row.old ++ behind_bars (optional_text (numeral 3) pair ∷ (source ∷ []) ∷ schedule.now ∷ reason.now ∷ []) }
+{
+    put_pair(row, pair);
+    put_letter(row, source);
+    put_field(row, schedule.bytes());
+    put_field(row, reason.bytes());
+}
+
+fn put_absence(
+    row: &mut Row<LONGEST>,
+    link: u32,
+    kind: u8,
+    date: &Day,
+    minutes: Option<u32>,
+    movement: Option<u8>,
+)
+    requires { length row.old ≤ TYPE_LEN }
+    ensures { row.new ≡ row.old ++ behind_bars (decimal link ∷ decimal kind ∷ day_text date.now ∷ optional_text decimal minutes ∷ optional_text decimal movement ∷ []) }
+{
+    put_number(row, link);
+    put_number(row, u32::from(kind));
+    put_field(row, &date.write());
+    put_optional(row, minutes);
+    put_optional(row, movement.map(u32::from));
+}
+
+fn put_program(
+    row: &mut Row<LONGEST>,
+    name: &Text<150>,
+    version: &Text<8>,
+    developer: &EmployerId,
+    developer_name: &Text<150>,
+    email: &Text<50>,
+)
+    requires room { length row.old ≤ TYPE_LEN }
+    requires developer { IsEmployerId developer.now }
+    ensures { row.new ≡ row.old ++ behind_bars (name.now ∷ version.now ∷ (kind_byte developer.now ∷ []) ∷ owner_text developer.now ∷ developer_name.now ∷ email.now ∷ []) }
+{
+    put_field(row, name.bytes());
+    put_field(row, version.bytes());
+    put_owner(row, developer);
+    put_field(row, developer_name.bytes());
+    put_field(row, email.bytes());
+}
+
+// The kind of an id, and its 14 or 11 digits.
+fn put_owner(row: &mut Row<LONGEST>, id: &EmployerId)
+    requires room { length row.old + 17 ≤ LONGEST }
+    requires id { IsEmployerId id.now }
+    ensures value { row.new ≡ row.old ++ behind_bars ((kind_byte id.now ∷ []) ∷ owner_text id.now ∷ []) }
+    ensures len { length row.new ≤ length row.old + 17 }
+{
+    put_letter(row, id.kind());
+    match id {
+        EmployerId::Cnpj(_) => put_field(row, &id.write()),
+        EmployerId::Person(cpf) => put_field(row, &cpf.write()),
+    }
+}
+
+fn put_times(row: &mut Row<LONGEST>, times: &Times)
+    requires { length row.old + 100 ≤ LONGEST }
+    ensures { row.new ≡ row.old ++ behind_bars (map hours_text times.now) }
+{
+    for minute in times.minutes() {
+        put_field(row, &write_time_of_day(*minute));
+    }
+}
+
+fn put_counts(row: &mut Row<LONGEST>, counts: &[u32; 8])
+    requires { length row.old ≤ TYPE_LEN }
+    ensures { row.new ≡ row.old ++ behind_bars (map decimal counts.now) }
+{
+    for count in counts {
+        put_number(row, *count);
+    }
+}
+
+// The number of a pair in three digits, where there is one.
+fn put_pair(row: &mut Row<LONGEST>, pair: Option<u16>)
+    requires room { length row.old + 4 ≤ LONGEST }
+    requires pair { IfSome pair IsPair }
+    ensures value { row.new ≡ row.old ++ bar ∷ optional_text (numeral 3) pair }
+    ensures len { length row.new ≤ length row.old + 4 }
+{
+    row.push(BAR);
+    if let Some(number) = pair {
+        row.push_numeral(3, u64::from(number));
+    }
+}
+
+// A number, where there is one.
+fn put_optional(row: &mut Row<LONGEST>, value: Option<u32>)
+    requires { length row.old + NUMBER_LEN ≤ LONGEST }
+    ensures value { row.new ≡ row.old ++ bar ∷ optional_text decimal value }
+    ensures len { length row.new ≤ length row.old + NUMBER_LEN }
+{
+    match value {
+        Some(number) => put_number(row, number),
+        None => row.push(BAR),
+    }
+}
+
+// A number with the bar before it.
+#[tactic(auto, using(crate::proofs::WritingLemmas::length_decimal))]
+fn put_number(row: &mut Row<LONGEST>, value: u32)
+    requires { length row.old + NUMBER_LEN ≤ LONGEST }
+    ensures value { row.new ≡ row.old ++ bar ∷ decimal value }
+    ensures len { length row.new ≤ length row.old + NUMBER_LEN }
+{
+    row.push(BAR);
+    row.push_decimal(u64::from(value));
+}
+
+fn put_letter(row: &mut Row<LONGEST>, letter: u8)
+    requires { length row.old + 2 ≤ LONGEST }
+    ensures value { row.new ≡ row.old ++ bar ∷ letter ∷ [] }
+    ensures len { length row.new ≡ length row.old + 2 }
+{
+    row.push(BAR);
+    row.push(letter);
+}
+
+// A field with the bar before it.
+fn put_field(row: &mut Row<LONGEST>, text: &[u8])
+    requires { length row.old + 1 + length text.now ≤ LONGEST }
+    ensures value { row.new ≡ row.old ++ bar ∷ text.now }
+    ensures len { length row.new ≡ length row.old + 1 + length text.now }
+{
+    row.push(BAR);
+    row.push_bytes(text);
+}
