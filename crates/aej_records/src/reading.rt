@@ -14,8 +14,8 @@ use crate::line::AejLine;
 use crate::times::{MOST_TIMES, Times};
 use crate::value::{
     read_code, read_count, read_id, read_mark_letter, read_name, read_number, read_owner,
-    read_owner_kind, read_pair, read_source_letter, read_stamp, read_time, read_type,
-    read_version, read_works,
+    read_owner_kind, read_pair, read_source_letter, read_stamp, read_time, read_type, read_version,
+    read_works,
 };
 use rep_fields::{Cpf, Day, RepNumber, Text};
 

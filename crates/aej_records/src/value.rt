@@ -208,7 +208,11 @@ pub fn read_time(text: &[u8]) -> Option<u32>
 pub fn read_version(text: &[u8]) -> Option<()>
     ensures { Decodes (λ _. Unit {0}) (λ _. codes "001") text.now result }
 {
-    if text == b"001".as_slice() { Some(()) } else { None }
+    if text == b"001".as_slice() {
+        Some(())
+    } else {
+        None
+    }
 }
 
 /// The letter of a mark: `E`, `S` or `D`.
