@@ -1,3 +1,4 @@
 pub mod FieldLemmas
+pub mod Spelled
 pub mod ValueLemmas
 pub mod WritingLemmas

@@ -51,9 +51,13 @@ abbrev pub IsOptionalText : {V : Type 0} → (V → List ℕ → Type 0) → Opt
 IsOptionalText IsWritten None text = text ≡ []
 IsOptionalText IsWritten (Some value) text = IsWritten value text
 
+-- the byte of an owner's kind: `1` for a CNPJ, `2` for a CPF
+abbrev pub IsOwnerKind : ℕ → Type 0
+IsOwnerKind kind = (kind ≡ 49) ⊎ (kind ≡ 50)
+
 -- what a field can be
 pub data FieldKind : Type 0 where
-  -- `1` for a CNPJ and `2` for a CPF, and the id of the kind in a field
+  -- the kind of an owner's id, and the id of the kind in a field
   owner_kind_field : FieldKind
   owner_field : List ℕ → FieldKind
   -- a CAEPF or CNO
@@ -73,29 +77,40 @@ pub data FieldKind : Type 0 where
   pair_field : FieldKind
   -- a number in this range, without zeros in front
   number_field : ℕ → ℕ → FieldKind
+  -- the letters of a mark and of its source
   mark_field : FieldKind
   source_field : FieldKind
   -- a field that may be empty
   optional_field : FieldKind → FieldKind
 
+-- the text is that of a value in the range
+pub record IsSpelled {V : Type 0} (IsValue : V → Type 0) (IsWritten : V → List ℕ → Type 0) (text : List ℕ) : Type 0 where
+  pub value : V
+  pub in_range : IsValue value
+  pub written : IsWritten value text
+
+-- each value has one text
+abbrev pub IsSpelledAs : {V : Type 0} → (V → Type 0) → (V → List ℕ) → List ℕ → Type 0
+IsSpelledAs IsValue text_of text = IsSpelled IsValue (λ value written. written ≡ text_of value) text
+
 -- the field is of its kind
 abbrev pub IsField : FieldKind → List ℕ → Type 0
-IsField owner_kind_field text = (text ≡ codes "1") ⊎ (text ≡ codes "2")
-IsField (owner_field kind) text = (id : EmployerId) × IsEmployerId id × IsOwnerText kind id text
-IsField works_field text = (works : List ℕ) × IsWorks works × IsFilled works text
-IsField (name_field most) text = (name : List ℕ) × IsName most name × IsFilled name text
-IsField (text_field most) text = (value : List ℕ) × IsText most value × IsFilled value text
-IsField day_field text = (day : ℕ) × IsDay day × (text ≡ day_text day)
-IsField time_field text = (minute : ℕ) × IsMinuteOfDay minute × (text ≡ hours_text minute)
-IsField stamp_field text = (moment : Moment) × IsMoment moment × IsStampText moment text
+IsField owner_kind_field text = IsSpelledAs IsOwnerKind (λ kind. kind ∷ []) text
+IsField (owner_field kind) text = IsSpelled IsEmployerId (IsOwnerText kind) text
+IsField works_field text = IsSpelled IsWorks IsFilled text
+IsField (name_field most) text = IsSpelled (IsName most) IsFilled text
+IsField (text_field most) text = IsSpelled (IsText most) IsFilled text
+IsField day_field text = IsSpelledAs IsDay day_text text
+IsField time_field text = IsSpelledAs IsMinuteOfDay hours_text text
+IsField stamp_field text = IsSpelled IsMoment IsStampText text
 IsField version_field text = text ≡ codes "001"
-IsField rep_number_field text = IsRepNumber text
-IsField cpf_field text = (cpf : ℕ) × IsCpf cpf × (text ≡ cpf_text cpf)
-IsField id_field text = (id : ℕ) × IsId id × IsIdText id text
-IsField pair_field text = (pair : ℕ) × IsPair pair × IsPairText pair text
-IsField (number_field least most) text = (n : ℕ) × IsBetween least most n × (text ≡ decimal n)
-IsField mark_field text = (mark : ℕ) × IsMarkLetter mark × (text ≡ mark ∷ [])
-IsField source_field text = (source : ℕ) × IsSourceLetter source × (text ≡ source ∷ [])
+IsField rep_number_field text = IsSpelledAs IsRepNumber (λ number. number) text
+IsField cpf_field text = IsSpelledAs IsCpf cpf_text text
+IsField id_field text = IsSpelled IsId IsIdText text
+IsField pair_field text = IsSpelled IsPair IsPairText text
+IsField (number_field least most) text = IsSpelledAs (IsBetween least most) decimal text
+IsField mark_field text = IsSpelledAs IsMarkLetter (λ letter. letter ∷ []) text
+IsField source_field text = IsSpelledAs IsSourceLetter (λ letter. letter ∷ []) text
 IsField (optional_field kind) text = (text ≡ []) ⊎ IsField kind text
 
 -- how many pairs of times a schedule's line begins that has so many fields: at least 1, and at most 10 count

@@ -10,8 +10,8 @@ use std::marker::Model;
 /// Stands between two fields of a line.
 pub const BAR: u8 = b'|';
 
-// The fields of the longest line, a schedule's of ten pairs, and one that is too many.
-const MOST_FIELDS: usize = 24;
+/// The fields of the longest line, a schedule's of ten pairs, and one that is too many.
+pub const MOST_FIELDS: usize = 24;
 
 /// The first fields of a line, as many as one of any type can have, and one more.
 #[derive(Drop)]

@@ -1,23 +1,24 @@
-ghost use Rattle.std.specs.Prelude.{◌≡◌, ℕ, ◌≤◌, length, Ok, Err, IfOk, IfErr};
+#![tactic(auto, using(crate::proofs::Spelled::spelled, crate::proofs::Spelled::unspelled, crate::proofs::Spelled::spelled_or_empty))]
+ghost use Rattle.std.specs.Prelude.{◌≡◌, ℕ, ◌≤◌, ◌<◌, length, Ok, Err, IfOk, IfErr};
 ghost use Rattle.rep_fields.specs.Moment.{IsMinuteOfDay};
 ghost use Rattle.aej_records.specs.Line.{IsReadable};
 ghost use Rattle.aej_records.specs.Text.{line_text};
 ghost use Rattle.aej_records.specs.Grammar.{ReadsAs, IsFirstBad, IsBadAmong, pairs_in as pairs_of};
-ghost use Rattle.aej_records.specs.Reading.{IsSaid, IsOff, IsSaidBy, AreTimes, AreTimesOff};
+ghost use Rattle.aej_records.specs.Reading.{IsSaid, IsOff, IsSaidBy, IsOwnerAt, IsOwnerOff, AreTimes, AreTimesOff};
 ghost use Rattle.aej_records.specs.declared.kind.LineType.TheVariants as type;
 ghost use Rattle.aej_records.specs.declared.line.AejLine.{AejLine as TheLine};
 
 use crate::error::BadAej;
-use crate::fields::Fields;
+use crate::fields::{Fields, MOST_FIELDS};
 use crate::kind::LineType;
 use crate::line::AejLine;
 use crate::times::{MOST_TIMES, Times};
 use crate::value::{
-    read_code, read_count, read_id, read_mark_letter, read_name, read_number, read_owner,
+    read_code, read_count, read_id, read_mark_letter, read_name, read_number, read_owner_id,
     read_owner_kind, read_pair, read_source_letter, read_stamp, read_time, read_type, read_version,
     read_works,
 };
-use rep_fields::{Cpf, Day, RepNumber, Text};
+use rep_fields::{Cpf, Day, EmployerId, RepNumber, Text};
 
 // The types whose lines are counted, 01 to 08.
 const COUNTED_TYPES: usize = 8;
@@ -66,8 +67,7 @@ fn read_head(fields: &Fields) -> Result<AejLine, BadAej>
     ensures found { IfOk result (IsSaid type.Head fields.now) }
     ensures off { IfErr result (IsOff type.Head fields.now) }
 {
-    let kind = fields.read(2, read_owner_kind)?;
-    let id = fields.read(3, |text| read_owner(kind, text))?;
+    let id = read_owner(fields, 2)?;
     let caepf = fields.read(4, read_works)?;
     let cno = fields.read(5, read_works)?;
     let name = fields.read(6, read_name)?;
@@ -85,6 +85,17 @@ fn read_head(fields: &Fields) -> Result<AejLine, BadAej>
         last,
         made,
     })
+}
+
+// The id of an owner, whose kind is in the field of this number, and its digits in the next.
+fn read_owner(fields: &Fields, number: u8) -> Result<EmployerId, BadAej>
+    requires least { 1 ≤ number }
+    requires most { number < MOST_FIELDS }
+    ensures found { IfOk result (IsOwnerAt number fields.now) }
+    ensures off { IfErr result (IsOwnerOff number fields.now) }
+{
+    let kind = fields.read(number, read_owner_kind)?;
+    fields.read(number + 1, |text| read_owner_id(kind, text))
 }
 
 fn read_rep(fields: &Fields) -> Result<AejLine, BadAej>
@@ -207,8 +218,7 @@ fn read_program(fields: &Fields) -> Result<AejLine, BadAej>
 {
     let name = fields.read(2, read_name)?;
     let version = fields.read(3, read_name)?;
-    let kind = fields.read(4, read_owner_kind)?;
-    let developer = fields.read(5, |text| read_owner(kind, text))?;
+    let developer = read_owner(fields, 4)?;
     let developer_name = fields.read(6, read_name)?;
     let email = fields.read(7, read_name)?;
     fields.end(7)?;

@@ -7,7 +7,7 @@ ghost use Rattle.rep_fields.specs.Moment.{IsMoment, IsMinuteOfDay, hours_text};
 ghost use Rattle.rep_fields.specs.Employer.{IsEmployerId};
 ghost use Rattle.aej_records.specs.Line.{IsBetween, IsId, IsPair, IsName, IsWorks, AreDigits, IsMarkLetter, IsSourceLetter};
 ghost use Rattle.aej_records.specs.Text.{type_text};
-ghost use Rattle.aej_records.specs.Grammar.{IsNumeralText, IsIdText, IsPairText, IsStampText, IsOwnerText};
+ghost use Rattle.aej_records.specs.Grammar.{IsNumeralText, IsIdText, IsPairText, IsStampText, IsOwnerKind, IsOwnerText};
 
 use crate::kind::LineType;
 use rep_fields::{Cpf, EmployerId, Stamp, Text, get_n, read_decimal, read_time_of_day};
@@ -127,7 +127,7 @@ pub fn read_count(text: &[u8]) -> Option<u32>
 
 /// The byte of the kind of an owner's id: `1` for a CNPJ, `2` for a CPF.
 pub fn read_owner_kind(text: &[u8]) -> Option<u8>
-    ensures { Decodes (λ kind. (kind ≡ CNPJ_KIND) ⊎ (kind ≡ CPF_KIND)) (λ kind. kind ∷ []) text.now result }
+    ensures { Decodes IsOwnerKind (λ kind. kind ∷ []) text.now result }
 {
     if text == b"1".as_slice() {
         return Some(CNPJ_KIND);
@@ -139,7 +139,7 @@ pub fn read_owner_kind(text: &[u8]) -> Option<u8>
 }
 
 /// The id of an owner of this kind: the 14 digits of a CNPJ, or the 11 of a CPF.
-pub fn read_owner(kind: u8, text: &[u8]) -> Option<EmployerId>
+pub fn read_owner_id(kind: u8, text: &[u8]) -> Option<EmployerId>
     ensures { DecodesBy IsEmployerId (IsOwnerText (kind ∷ [])) text.now result }
 {
     match kind {
