@@ -1,4 +1,5 @@
 pub mod FieldLemmas
+pub mod RunLemmas
 pub mod Spelled
 pub mod ValueLemmas
 pub mod WritingLemmas

@@ -4,7 +4,7 @@
 --   the number of an employment, a recorder or a pair may have zeros in front,
 --   a stamp may have seconds from 00 to 59 and the offset `-0000`,
 --   a text may have spaces behind it.
-use Rattle.std.specs.Prelude.{◌≡◌, ◌≢◌, ℕ, zero, suc, ◌+◌, ◌-◌, ◌*◌, ◌/◌, ◌≤◌, ◌⊎◌, Bool, min, max, List, [], ◌∷◌, length, replicate, codes, decimal, Option, Some, None}
+use Rattle.std.specs.Prelude.{◌≡◌, ◌≢◌, ℕ, zero, suc, ◌+◌, ◌-◌, ◌*◌, ◌/◌, ◌≤◌, ◌⊎◌, Bool, min, max, List, [], ◌∷◌, length, replicate, slice_index, EachIndex, codes, decimal, Option, Some, None}
 use Rattle.rep_fields.specs.Calendar.{IsDay, day_text}
 use Rattle.rep_fields.specs.Digits.{numeral, FitsDigits}
 use Rattle.rep_fields.specs.Employer.{IsEmployerId, kind_byte}
@@ -160,9 +160,8 @@ IsFirstBad text number = IsBadAmong (fields_of text) number
 
 -- the fields from a place on are these values, as each is written
 abbrev pub AreWritten : ℕ → (ℕ → List ℕ) → List ℕ → List (List ℕ) → Type 0
-AreWritten place text_of [] fields = Unit {0}
-AreWritten place text_of (value ∷ values) fields =
-    (field_at place fields ≡ text_of value) × AreWritten (place + 1) text_of values fields
+AreWritten place text_of values fields =
+    EachIndex values (λ k. field_at (place + k) fields ≡ text_of (slice_index values k))
 
 -- the fields behind the first say the values of a line
 abbrev pub Says : AejLine → List (List ℕ) → Type 0
