@@ -1,5 +1,11 @@
+pub mod Apart
+pub mod Bars
+pub mod Capped
 pub mod FieldLemmas
+pub mod Printed
+pub mod ReadLemmas
 pub mod RunLemmas
 pub mod Spelled
+pub mod Unique
 pub mod ValueLemmas
 pub mod WritingLemmas

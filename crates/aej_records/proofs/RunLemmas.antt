@@ -51,3 +51,11 @@ All-taken P xs count within each = λ k d inside.
     let here : get_or (take count xs) k d ≡ get_or xs k 0 =
     get_or-take count xs k d short ∙ get_or_default xs k d 0 (omega arith) in
     subst P (sym here) (each k short)
+
+-- and there is none behind a run that ends the line
+pub no_field_past_run : (kind : FieldKind) (place total number : ℕ) (fields : List (List ℕ)) → AreOfKind kind place total fields
+    → length fields < place + total → IsFirstOff place (replicate total kind) fields number → ⊥
+no_field_past_run kind place zero number fields fit few off = omega (arith, off.0)
+no_field_past_run kind place (suc total) number fields fit few (inl here) = here.0 (AreOfKind-first kind place total fields fit)
+no_field_past_run kind place (suc total) number fields fit few (inr behind) =
+    no_field_past_run kind (place + 1) total number fields (AreOfKind-behind kind place total fields fit) (omega arith) behind.1

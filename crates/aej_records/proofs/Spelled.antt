@@ -39,7 +39,7 @@ pub not_spelled_or_empty : {V : Type 0} {IsValue : V → Type 0} {IsWritten : V 
 not_spelled_or_empty off (inl empty) = off.0 empty
 not_spelled_or_empty off (inr said) = unspelled off.1 said
 
-IsOwnerKind-kind_byte : (id : EmployerId) → IsOwnerKind (kind_byte id)
+pub IsOwnerKind-kind_byte : (id : EmployerId) → IsOwnerKind (kind_byte id)
 IsOwnerKind-kind_byte (Cnpj number) = inl refl
 IsOwnerKind-kind_byte (Person cpf) = inr refl
 
