@@ -64,7 +64,8 @@ IsAbsenceLength minutes = IsBetween 0 99999 minutes
 abbrev pub IsMarkLetter : ℕ → Type 0
 IsMarkLetter mark = (mark ≡ 69) ⊎ (mark ≡ 83) ⊎ (mark ≡ 68)
 
--- the letters `O`, `I`, `P`, `X` and `T`: a recorder, included by hand, entered in advance, kept by exception, another
+-- the letters `O`, `I`, `P`, `X` and `T`: an original of a recorder, included by hand, a break stated beforehand, a
+-- clocking by exception, another source
 abbrev pub IsSourceLetter : ℕ → Type 0
 IsSourceLetter source = (source ≡ 79) ⊎ (source ≡ 73) ⊎ (source ≡ 80) ⊎ (source ≡ 88) ⊎ (source ≡ 84)
 
@@ -93,6 +94,19 @@ IsName most name = IsText most name × (name ≢ [])
 -- a CAEPF or CNO that can be read: at most 14 digits
 abbrev pub IsWorks : List ℕ → Type 0
 IsWorks text = IsText 14 text × AreDigits text
+
+-- no text of the line is empty but those that may be
+abbrev pub HasNames : AejLine → Type 0
+HasNames (Head id caepf cno name first last made) = name ≢ []
+HasNames (Rep id kind number) = Unit {0}
+HasNames (Link id cpf name) = name ≢ []
+HasNames (Schedule code minutes times) = code ≢ []
+HasNames (Mark link at rep mark pair source schedule reason) = Unit {0}
+HasNames (Registration link number) = number ≢ []
+HasNames (Absence link kind date minutes movement) = Unit {0}
+HasNames (Program name version developer developer_name email) =
+    (name ≢ []) × (version ≢ []) × (developer_name ≢ []) × (email ≢ [])
+HasNames (Counts counts) = Unit {0}
 
 -- each part of a line is in its range, and no text is empty but those that may be
 abbrev pub IsInRange : AejLine → Type 0

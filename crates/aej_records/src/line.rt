@@ -60,8 +60,9 @@ pub enum AejLine {
         mark: u8,
         /// The number of the pair of entry and exit in its day, 1 to 999.
         pair: Option<u16>,
-        /// The letter of where it comes from: `O` a recorder, `I` included by hand, `P` entered in advance, `X` kept by
-        /// exception, `T` another source.
+        /// The letter of where it comes from: `O` an original of a recorder, `I` included by hand, `P` a break stated
+        /// beforehand (`intervalo pré-assinalado`), `X` a clocking by exception (`ponto por exceção`), `T` another
+        /// source.
         source: u8,
         /// The code of the schedule of the day that the mark begins; empty for none.
         schedule: Text<30>,

@@ -1,10 +1,13 @@
 ghost use Rattle.std.specs.Prelude.{◌≡◌, ℕ, ◌≤◌, ◌+◌, ◌++◌, ◌∷◌, [], length, map, codes, decimal, All, Option, Some, None, IfSome};
-ghost use Rattle.rep_fields.specs.Calendar.{day_text};
+ghost use Rattle.rep_fields.specs.Calendar.{IsDay, day_text};
 ghost use Rattle.rep_fields.specs.Digits.{numeral};
 ghost use Rattle.rep_fields.specs.Employer.{IsEmployerId, kind_byte};
 ghost use Rattle.rep_fields.specs.Identity.{bar, cpf_text};
-ghost use Rattle.rep_fields.specs.Moment.{hours_text, moment_text};
-ghost use Rattle.aej_records.specs.Line.{HasText, IsPair, IsCount};
+ghost use Rattle.rep_fields.specs.Latin.{IsText};
+ghost use Rattle.rep_fields.specs.Moment.{IsMoment, hours_text, moment_text};
+ghost use Rattle.aej_records.specs.Grammar.{ReadsAs};
+ghost use Rattle.aej_records.specs.Line.{HasText, HasNames, HasNoBars, IsInRange, IsPair, IsCount};
+ghost use Rattle.aej_records.specs.Times.{IsTimes};
 ghost use Rattle.aej_records.specs.Text.{line_text, owner_text, optional_text, behind_bars};
 
 use crate::fields::BAR;
@@ -16,19 +19,21 @@ use rep_io::Piece;
 /// No line that is written is longer.
 const LONGEST: usize = 384;
 
-/// No two digits of a type are longer.
+/// The bytes of a line's type.
 const TYPE_LEN: usize = 2;
 
 /// The most bytes of a number of 32 bits with the bar before it.
 const NUMBER_LEN: usize = 11;
 
-/// The line, without its end.
+/// The text of a line, without its end.
 ///
-/// Numbers have no zeros in front but for that of a pair, which has three digits. A line whose last field is empty ends
-/// with the separator before it.
+/// Counts, minutes, and the numbers of employments, recorders and kinds have no zeros in front; the number of a pair has
+/// three digits. A line whose last field is empty ends with the separator before it. A line with a bar in a text, or
+/// with a text that is empty and may not be, is written all the same, and reads as no line or as another.
 pub fn print(line: &AejLine) -> Piece
     requires { HasText line.now }
-    ensures { result ≡ line_text line.now }
+    ensures text { result ≡ line_text line.now }
+    ensures reads { HasNames line.now → HasNoBars line.now → ReadsAs result line.now }
 {
     match Piece::make(row_of(line).bytes()) {
         Some(piece) => piece,
@@ -40,7 +45,8 @@ pub fn print(line: &AejLine) -> Piece
 #[tactic(auto, unfolding(crate::specs::Text::line_text))]
 fn row_of(line: &AejLine) -> Row<LONGEST>
     requires { HasText line.now }
-    ensures { result ≡ line_text line.now }
+    ensures text { result ≡ line_text line.now }
+    ensures in_range { HasNames line.now → IsInRange line.now }
 {
     let mut row = Row::new();
     match line {
@@ -138,6 +144,9 @@ fn put_employer(
     requires id { IsEmployerId id.now }
     ensures value { row.new ≡ row.old ++ behind_bars ((kind_byte id.now ∷ []) ∷ owner_text id.now ∷ caepf.now ∷ cno.now
         ∷ name.now ∷ []) }
+    ensures caepf { IsText 14 caepf.now }
+    ensures cno { IsText 14 cno.now }
+    ensures name { IsText 150 name.now }
     ensures len { length row.new ≤ length row.old + 198 }
 {
     put_owner(row, id);
@@ -150,6 +159,9 @@ fn put_employer(
 fn put_period(row: &mut Row<LONGEST>, first: &Day, last: &Day, made: &Stamp)
     requires room { length row.old + 51 ≤ LONGEST }
     ensures value { row.new ≡ row.old ++ behind_bars (day_text first.now ∷ day_text last.now ∷ moment_text made.now ∷ codes "001" ∷ []) }
+    ensures first { IsDay first.now }
+    ensures last { IsDay last.now }
+    ensures made { IsMoment made.now }
 {
     put_field(row, &first.write());
     put_field(row, &last.write());
@@ -162,6 +174,7 @@ fn put_moment(row: &mut Row<LONGEST>, link: u32, at: &Stamp, rep: Option<u32>, m
     requires { length row.old ≤ TYPE_LEN }
     ensures value { row.new ≡ row.old ++ behind_bars (decimal link ∷ moment_text at.now ∷ optional_text decimal rep ∷ (mark ∷ []) ∷ []) }
     ensures len { length row.new ≤ length row.old + 49 }
+    ensures at { IsMoment at.now }
 {
     put_number(row, link);
     put_field(row, &at.write());
@@ -179,7 +192,9 @@ fn put_origin(
 )
     requires room { length row.old + 188 ≤ LONGEST }
     requires pair { IfSome pair IsPair }
-    ensures { row.new ≡ row.old ++ behind_bars (optional_text (numeral 3) pair ∷ (source ∷ []) ∷ schedule.now ∷ reason.now ∷ []) }
+    ensures value { row.new ≡ row.old ++ behind_bars (optional_text (numeral 3) pair ∷ (source ∷ []) ∷ schedule.now ∷ reason.now ∷ []) }
+    ensures schedule { IsText 30 schedule.now }
+    ensures reason { IsText 150 reason.now }
 {
     put_pair(row, pair);
     put_letter(row, source);
@@ -196,7 +211,8 @@ fn put_absence(
     movement: Option<u8>,
 )
     requires { length row.old ≤ TYPE_LEN }
-    ensures { row.new ≡ row.old ++ behind_bars (decimal link ∷ decimal kind ∷ day_text date.now ∷ optional_text decimal minutes ∷ optional_text decimal movement ∷ []) }
+    ensures value { row.new ≡ row.old ++ behind_bars (decimal link ∷ decimal kind ∷ day_text date.now ∷ optional_text decimal minutes ∷ optional_text decimal movement ∷ []) }
+    ensures date { IsDay date.now }
 {
     put_number(row, link);
     put_number(row, u32::from(kind));
@@ -215,7 +231,12 @@ fn put_program(
 )
     requires room { length row.old ≤ TYPE_LEN }
     requires developer { IsEmployerId developer.now }
-    ensures { row.new ≡ row.old ++ behind_bars (name.now ∷ version.now ∷ (kind_byte developer.now ∷ []) ∷ owner_text developer.now ∷ developer_name.now ∷ email.now ∷ []) }
+    ensures value { row.new ≡ row.old ++ behind_bars (name.now ∷ version.now ∷ (kind_byte developer.now ∷ [])
+        ∷ owner_text developer.now ∷ developer_name.now ∷ email.now ∷ []) }
+    ensures name { IsText 150 name.now }
+    ensures version { IsText 8 version.now }
+    ensures developer_name { IsText 150 developer_name.now }
+    ensures email { IsText 50 email.now }
 {
     put_field(row, name.bytes());
     put_field(row, version.bytes());
@@ -240,7 +261,8 @@ fn put_owner(row: &mut Row<LONGEST>, id: &EmployerId)
 
 fn put_times(row: &mut Row<LONGEST>, times: &Times)
     requires { length row.old + 100 ≤ LONGEST }
-    ensures { row.new ≡ row.old ++ behind_bars (map hours_text times.now) }
+    ensures value { row.new ≡ row.old ++ behind_bars (map hours_text times.now) }
+    ensures times { IsTimes times.now }
 {
     for minute in times.minutes() {
         put_field(row, &write_time_of_day(*minute));
