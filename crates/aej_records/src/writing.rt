@@ -271,7 +271,8 @@ fn put_times(row: &mut Row<LONGEST>, times: &Times)
 
 fn put_counts(row: &mut Row<LONGEST>, counts: &[u32; 8])
     requires { length row.old ≤ TYPE_LEN }
-    ensures { row.new ≡ row.old ++ behind_bars (map decimal counts.now) }
+    ensures value { row.new ≡ row.old ++ behind_bars (map decimal counts.now) }
+    ensures all { length counts.now ≡ 8 }
 {
     for count in counts {
         put_number(row, *count);
