@@ -5,7 +5,7 @@ use Rattle.rep_fields.specs.Moment.{IsMinuteOfDay, hours_text}
 use Rattle.rep_fields.specs.declared.employer.EmployerId.{EmployerId}
 use Rattle.aej_records.specs.Fields.{fields_of, field_at}
 use Rattle.aej_records.specs.Grammar.{FieldKind, IsField, IsSpelled, IsOptionalText, IsOwnerText, AreWritten, kinds_of, pairs_in, IsFirstOff, IsNoType, IsBadAmong, IsFirstBad, Says, ReadsAs, owner_kind_field, owner_field, time_field, number_field}
-use Rattle.aej_records.specs.Line.{type_of, IsCount, IsInRange}
+use Rattle.aej_records.specs.Line.{type_of, IsCount, IsInRange, HasNames}
 use Rattle.aej_records.specs.Text.{type_text}
 use Rattle.aej_records.specs.declared.kind.LineType.{LineType}
 use Rattle.aej_records.specs.declared.line.AejLine.{AejLine}
@@ -29,26 +29,26 @@ owner_kind_is : (kind : List ℕ) (id : EmployerId) (text : List ℕ) → IsOwne
 owner_kind_is kind id text said = record { value = kind_byte id; in_range = IsOwnerKind-kind_byte id; written = said.0 }
 
 -- the fields of a line are of their kinds
-none_off : (line : AejLine) (fields : List (List ℕ)) (number : ℕ) → IsInRange line → Says line fields
+none_off : (line : AejLine) (fields : List (List ℕ)) (number : ℕ) → IsInRange line → HasNames line → Says line fields
     → IsFirstOff 2 (kinds_of (type_of line) fields) fields number → ⊥
-none_off (Head id caepf cno name first last made) fields number in_range said off =
+none_off (Head id caepf cno name first last made) fields number in_range names said off =
     let behind_ids = past (past off (owner_kind_is _ id _ said.0)) (record { value = id; in_range = in_range.0; written = said.0 }) in
     let behind_works = past (past behind_ids (record { value = caepf; in_range = in_range.1; written = said.1 }))
     (record { value = cno; in_range = in_range.2; written = said.2 }) in
-    let behind_days = past (past (past behind_works (record { value = name; in_range = in_range.3; written = said.3 }))
+    let behind_days = past (past (past behind_works (record { value = name; in_range = (in_range.3, names); written = said.3 }))
     (record { value = first; in_range = in_range.4; written = said.4 })) (record { value = last; in_range = in_range.5; written = said.5 }) in
     let end = past (past behind_days (record { value = made; in_range = in_range.6; written = said.6 })) said.7 in
     omega (arith, end.0, said.8)
-none_off (Rep id kind number) fields bad in_range said off =
+none_off (Rep id kind number) fields bad in_range names said off =
     let end = past (past (past off (record { value = id; in_range = in_range.0; written = said.0 }))
     (record { value = kind; in_range = in_range.1; written = said.1 })) (record { value = number; in_range = in_range.2; written = said.2 }) in
     omega (arith, end.0, said.3)
-none_off (Link id cpf name) fields number in_range said off =
+none_off (Link id cpf name) fields number in_range names said off =
     let end = past (past (past off (record { value = id; in_range = in_range.0; written = said.0 }))
-    (record { value = cpf; in_range = in_range.1; written = said.1 })) (record { value = name; in_range = in_range.2; written = said.2 }) in
+    (record { value = cpf; in_range = in_range.1; written = said.1 })) (record { value = name; in_range = (in_range.2, names); written = said.2 }) in
     omega (arith, end.0, said.3)
-none_off (Schedule code minutes times) fields number in_range said off =
-    let behind = past (past off (record { value = code; in_range = in_range.0; written = said.0 }))
+none_off (Schedule code minutes times) fields number in_range names said off =
+    let behind = past (past off (record { value = code; in_range = (in_range.0, names); written = said.0 }))
     (record { value = minutes; in_range = in_range.1; written = said.1 }) in
     let timed = in_range.2 in
     let some = timed.some in
@@ -59,7 +59,7 @@ none_off (Schedule code minutes times) fields number in_range said off =
     no_field_past_run time_field 4 (2 * pairs_in (length fields)) number fields
     (λ k within. record { value = slice_index times k; in_range = timed.minutes k 0 (omega arith); written = said.2 k (omega arith) })
     (omega arith) behind
-none_off (Mark link at rep mark pair source schedule reason) fields number in_range said off =
+none_off (Mark link at rep mark pair source schedule reason) fields number in_range names said off =
     let behind_rep = past (past (past off (record { value = link; in_range = in_range.0; written = said.0 }))
     (record { value = at; in_range = in_range.1; written = said.1 })) (optional_is _ _ rep _ in_range.2 said.2) in
     let behind_source = past (past (past behind_rep (record { value = mark; in_range = in_range.3; written = said.3 }))
@@ -67,24 +67,24 @@ none_off (Mark link at rep mark pair source schedule reason) fields number in_ra
     let end = past (past behind_source (record { value = schedule; in_range = in_range.6; written = said.6 }))
     (record { value = reason; in_range = in_range.7; written = said.7 }) in
     omega (arith, end.0, said.8)
-none_off (Registration link number) fields bad in_range said off =
+none_off (Registration link number) fields bad in_range names said off =
     let end = past (past off (record { value = link; in_range = in_range.0; written = said.0 }))
-    (record { value = number; in_range = in_range.1; written = said.1 }) in
+    (record { value = number; in_range = (in_range.1, names); written = said.1 }) in
     omega (arith, end.0, said.2)
-none_off (Absence link kind date minutes movement) fields number in_range said off =
+none_off (Absence link kind date minutes movement) fields number in_range names said off =
     let behind_date = past (past (past off (record { value = link; in_range = in_range.0; written = said.0 }))
     (record { value = kind; in_range = in_range.1; written = said.1 })) (record { value = date; in_range = in_range.2; written = said.2 }) in
     let end = past (past behind_date (optional_is _ _ minutes _ in_range.3 said.3)) (optional_is _ _ movement _ in_range.4 said.4) in
     omega (arith, end.0, said.5)
-none_off (Program name version developer developer_name email) fields number in_range said off =
-    let behind_version = past (past off (record { value = name; in_range = in_range.0; written = said.0 }))
-    (record { value = version; in_range = in_range.1; written = said.1 }) in
+none_off (Program name version developer developer_name email) fields number in_range names said off =
+    let behind_version = past (past off (record { value = name; in_range = (in_range.0, names.0); written = said.0 }))
+    (record { value = version; in_range = (in_range.1, names.1); written = said.1 }) in
     let behind_developer = past (past behind_version (owner_kind_is _ developer _ said.2))
     (record { value = developer; in_range = in_range.2; written = said.2 }) in
-    let end = past (past behind_developer (record { value = developer_name; in_range = in_range.3; written = said.3 }))
-    (record { value = email; in_range = in_range.4; written = said.4 }) in
+    let end = past (past behind_developer (record { value = developer_name; in_range = (in_range.3, names.2); written = said.3 }))
+    (record { value = email; in_range = (in_range.4, names.3); written = said.4 }) in
     omega (arith, end.0, said.5)
-none_off (Counts counts) fields number in_range said off =
+none_off (Counts counts) fields number in_range names said off =
     no_field_past_run (number_field 0 999999999) 2 8 number fields
     (λ k within. record { value = slice_index counts k; in_range = in_range.1 k 0 (omega (arith, in_range.0)); written = said.0 k (omega (arith, in_range.0)) })
     (omega (arith, said.1)) off
@@ -94,7 +94,7 @@ pub not_bad : (text : List ℕ) (line : AejLine) (number : ℕ) → ReadsAs text
 not_bad text line number reads (inl none) = none.0 (type_of line) reads.of_type
 not_bad text line number reads (inr off) =
     let same : off.0 ≡ type_of line = type_text-injective off.0 (type_of line) (sym off.1 ∙ reads.of_type) in
-    none_off line (fields_of text) number reads.readable.in_range reads.said
+    none_off line (fields_of text) number reads.readable.in_range reads.readable.names reads.said
     (subst (λ type. IsFirstOff 2 (kinds_of type (fields_of text)) (fields_of text) number) same off.2)
 
 first_off_is_one : (place : ℕ) (kinds : List FieldKind) (fields : List (List ℕ)) (m n : ℕ) → IsFirstOff place kinds fields m

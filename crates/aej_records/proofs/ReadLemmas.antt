@@ -34,7 +34,7 @@ pub found_whole : (text : List ℕ) (fields : List (List ℕ)) (result : Result 
 found_whole text fields (Ok line) is found =
     let said = IsSaidBy-whole (fields_of text) line (subst (λ fs. IsSaidBy fs line) is found) in
     record {
-      readable = record { in_range = said.in_range; no_bars = HasNoBars-said line text said.said };
+      readable = record { in_range = said.in_range; names = said.names; no_bars = HasNoBars-said line text said.said };
       of_type = said.of_type;
       said = said.said;
     }

@@ -164,7 +164,7 @@ says_one (Head id caepf cno name first last made) (Head id' caepf' cno' name' fi
     let ids = owner-unique _ id id' _ a_in.0 b_in.0 a_said.0 b_said.0 in
     let caepfs = name-unique 14 caepf caepf' _ a_in.1.0 b_in.1.0 a_said.1 b_said.1 in
     let cnos = name-unique 14 cno cno' _ a_in.2.0 b_in.2.0 a_said.2 b_said.2 in
-    let names = name-unique 150 name name' _ a_in.3.0 b_in.3.0 a_said.3 b_said.3 in
+    let names = name-unique 150 name name' _ a_in.3 b_in.3 a_said.3 b_said.3 in
     let firsts = day_text-injective first first' a_in.4 b_in.4 (sym a_said.4 ∙ b_said.4) in
     let lasts = day_text-injective last last' a_in.5 b_in.5 (sym a_said.5 ∙ b_said.5) in
     let mades = stamp-unique made made' _ a_in.6 b_in.6 a_said.6 b_said.6 in cc
@@ -175,9 +175,9 @@ says_one (Rep id kind number) (Rep id' kind' number') fields types a_in b_in a_s
 says_one (Link id cpf name) (Link id' cpf' name') fields types a_in b_in a_said b_said =
     let ids = IsNumeralText-unique 9 9 id id' _ a_said.0 b_said.0 in
     let cpfs = cpf_text-injective cpf cpf' a_in.1 b_in.1 (sym a_said.1 ∙ b_said.1) in
-    let names = name-unique 150 name name' _ a_in.2.0 b_in.2.0 a_said.2 b_said.2 in cc
+    let names = name-unique 150 name name' _ a_in.2 b_in.2 a_said.2 b_said.2 in cc
 says_one (Schedule code minutes times) (Schedule code' minutes' times') fields types a_in b_in a_said b_said =
-    let names = name-unique 30 code code' _ a_in.0.0 b_in.0.0 a_said.0 b_said.0 in
+    let names = name-unique 30 code code' _ a_in.0 b_in.0 a_said.0 b_said.0 in
     let lengths = number-unique 1 1440 minutes minutes' _ (omega arith) a_in.1 b_in.1 a_said.1 b_said.1 in
     let hours = times-unique times times' fields a_in.2 b_in.2 a_said.2 b_said.2 a_said.3 b_said.3 in cc
 says_one (Mark link at rep mark pair source schedule reason) (Mark link' at' rep' mark' pair' source' schedule' reason') fields types a_in b_in a_said b_said =
@@ -193,7 +193,7 @@ says_one (Mark link at rep mark pair source schedule reason) (Mark link' at' rep
     let reasons = name-unique 150 reason reason' _ a_in.7 b_in.7 a_said.7 b_said.7 in cc
 says_one (Registration link number) (Registration link' number') fields types a_in b_in a_said b_said =
     let links = IsNumeralText-unique 9 9 link link' _ a_said.0 b_said.0 in
-    let numbers = name-unique 30 number number' _ a_in.1.0 b_in.1.0 a_said.1 b_said.1 in cc
+    let numbers = name-unique 30 number number' _ a_in.1 b_in.1 a_said.1 b_said.1 in cc
 says_one (Absence link kind date minutes movement) (Absence link' kind' date' minutes' movement') fields types a_in b_in a_said b_said =
     let links = IsNumeralText-unique 9 9 link link' _ a_said.0 b_said.0 in
     let kinds = number-unique 1 4 kind kind' _ (omega arith) a_in.1 b_in.1 a_said.1 b_said.1 in
@@ -201,11 +201,11 @@ says_one (Absence link kind date minutes movement) (Absence link' kind' date' mi
     let lengths = optional_number-unique 0 99999 minutes minutes' _ (omega arith) a_in.3 b_in.3 a_said.3 b_said.3 in
     let movements = optional_number-unique 1 2 movement movement' _ (omega arith) a_in.4 b_in.4 a_said.4 b_said.4 in cc
 says_one (Program name version developer developer_name email) (Program name' version' developer' developer_name' email') fields types a_in b_in a_said b_said =
-    let names = name-unique 150 name name' _ a_in.0.0 b_in.0.0 a_said.0 b_said.0 in
-    let versions = name-unique 8 version version' _ a_in.1.0 b_in.1.0 a_said.1 b_said.1 in
+    let names = name-unique 150 name name' _ a_in.0 b_in.0 a_said.0 b_said.0 in
+    let versions = name-unique 8 version version' _ a_in.1 b_in.1 a_said.1 b_said.1 in
     let developers = owner-unique _ developer developer' _ a_in.2 b_in.2 a_said.2 b_said.2 in
-    let makers = name-unique 150 developer_name developer_name' _ a_in.3.0 b_in.3.0 a_said.3 b_said.3 in
-    let emails = name-unique 50 email email' _ a_in.4.0 b_in.4.0 a_said.4 b_said.4 in cc
+    let makers = name-unique 150 developer_name developer_name' _ a_in.3 b_in.3 a_said.3 b_said.3 in
+    let emails = name-unique 50 email email' _ a_in.4 b_in.4 a_said.4 b_said.4 in cc
 says_one (Counts counts) (Counts counts') fields types a_in b_in a_said b_said =
     ap Counts (counts-unique counts counts' fields a_in.0 b_in.0 a_in.1 b_in.1 a_said.0 b_said.0)
 says_one _ _ fields types a_in b_in a_said b_said = absurd (cc)

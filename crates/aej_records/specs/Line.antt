@@ -95,6 +95,23 @@ IsName most name = IsText most name × (name ≢ [])
 abbrev pub IsWorks : List ℕ → Type 0
 IsWorks text = IsText 14 text × AreDigits text
 
+-- each part of a line is in its range
+abbrev pub IsInRange : AejLine → Type 0
+IsInRange (Head id caepf cno name first last made) =
+    IsEmployerId id × IsWorks caepf × IsWorks cno × IsText 150 name × IsDay first × IsDay last × IsMoment made
+IsInRange (Rep id kind number) = IsId id × IsRepKind kind × IsRepNumber number
+IsInRange (Link id cpf name) = IsId id × IsCpf cpf × IsText 150 name
+IsInRange (Schedule code minutes times) = IsText 30 code × IsDayLength minutes × IsTimes times
+IsInRange (Mark link at rep mark pair source schedule reason) =
+    IsId link × IsMoment at × IfSome rep IsId × IsMarkLetter mark × IfSome pair IsPair × IsSourceLetter source
+    × IsText 30 schedule × IsText 150 reason
+IsInRange (Registration link number) = IsId link × IsText 30 number
+IsInRange (Absence link kind date minutes movement) =
+    IsId link × IsAbsenceKind kind × IsDay date × IfSome minutes IsAbsenceLength × IfSome movement IsMovement
+IsInRange (Program name version developer developer_name email) =
+    IsText 150 name × IsText 8 version × IsEmployerId developer × IsText 150 developer_name × IsText 50 email
+IsInRange (Counts counts) = (length counts ≡ 8) × All IsCount counts
+
 -- no text of the line is empty but those that may be
 abbrev pub HasNames : AejLine → Type 0
 HasNames (Head id caepf cno name first last made) = name ≢ []
@@ -107,23 +124,6 @@ HasNames (Absence link kind date minutes movement) = Unit {0}
 HasNames (Program name version developer developer_name email) =
     (name ≢ []) × (version ≢ []) × (developer_name ≢ []) × (email ≢ [])
 HasNames (Counts counts) = Unit {0}
-
--- each part of a line is in its range, and no text is empty but those that may be
-abbrev pub IsInRange : AejLine → Type 0
-IsInRange (Head id caepf cno name first last made) =
-    IsEmployerId id × IsWorks caepf × IsWorks cno × IsName 150 name × IsDay first × IsDay last × IsMoment made
-IsInRange (Rep id kind number) = IsId id × IsRepKind kind × IsRepNumber number
-IsInRange (Link id cpf name) = IsId id × IsCpf cpf × IsName 150 name
-IsInRange (Schedule code minutes times) = IsName 30 code × IsDayLength minutes × IsTimes times
-IsInRange (Mark link at rep mark pair source schedule reason) =
-    IsId link × IsMoment at × IfSome rep IsId × IsMarkLetter mark × IfSome pair IsPair × IsSourceLetter source
-    × IsText 30 schedule × IsText 150 reason
-IsInRange (Registration link number) = IsId link × IsName 30 number
-IsInRange (Absence link kind date minutes movement) =
-    IsId link × IsAbsenceKind kind × IsDay date × IfSome minutes IsAbsenceLength × IfSome movement IsMovement
-IsInRange (Program name version developer developer_name email) =
-    IsName 150 name × IsName 8 version × IsEmployerId developer × IsName 150 developer_name × IsName 50 email
-IsInRange (Counts counts) = (length counts ≡ 8) × All IsCount counts
 
 -- a text that can stand between two bars
 abbrev pub HasNoBar : List ℕ → Type 0
@@ -145,4 +145,5 @@ HasNoBars (Counts counts) = Unit {0}
 -- a line that can be read from what is written for it
 pub record IsReadable (line : AejLine) : Type 0 where
   pub in_range : IsInRange line
+  pub names : HasNames line
   pub no_bars : HasNoBars line

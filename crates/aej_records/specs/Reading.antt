@@ -5,7 +5,7 @@ use Rattle.rep_fields.specs.declared.employer.EmployerId.{EmployerId}
 use Rattle.rep_fields.specs.Moment.{hours_text}
 use Rattle.aej_records.specs.Fields.{field_at}
 use Rattle.aej_records.specs.Grammar.{kinds_of, pairs_in, IsField, IsOwnerText, IsFirstOff, AreWritten, Says, owner_kind_field, owner_field, time_field}
-use Rattle.aej_records.specs.Line.{type_of, IsInRange}
+use Rattle.aej_records.specs.Line.{type_of, IsInRange, HasNames}
 use Rattle.aej_records.specs.Text.{type_text}
 use Rattle.aej_records.specs.Times.{IsTimes}
 use Rattle.aej_records.specs.declared.kind.LineType.{LineType}
@@ -15,6 +15,7 @@ use Rattle.aej_records.specs.declared.error.BadAej.{BadAej}
 -- the fields of a line of this type say the line's values
 pub record IsSaid (type : LineType) (fields : List (List ℕ)) (line : AejLine) : Type 0 where
   pub in_range : IsInRange line
+  pub names : HasNames line
   pub of_type : type_of line ≡ type
   pub said : Says line fields
 
@@ -25,6 +26,7 @@ IsOff type fields bad = IsFirstOff 2 (kinds_of type fields) fields bad.field
 -- the fields of a line say the line's values
 pub record IsSaidBy (fields : List (List ℕ)) (line : AejLine) : Type 0 where
   pub in_range : IsInRange line
+  pub names : HasNames line
   pub of_type : field_at 1 fields ≡ type_text (type_of line)
   pub said : Says line fields
 

@@ -46,7 +46,7 @@ pub fn print(line: &AejLine) -> Piece
 fn row_of(line: &AejLine) -> Row<LONGEST>
     requires { HasText line.now }
     ensures text { result ≡ line_text line.now }
-    ensures in_range { HasNames line.now → IsInRange line.now }
+    ensures in_range { IsInRange line.now }
 {
     let mut row = Row::new();
     match line {
