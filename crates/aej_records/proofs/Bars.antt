@@ -11,13 +11,21 @@ use Rattle.rep_fields.specs.Identity.{bar}
 use Rattle.rep_fields.specs.Latin.{IsFilled, spaces}
 use Rattle.rep_fields.proofs.Numerals.{IsDigitByte-numeral}
 use Rattle.aej_records.specs.Fields.{fields_of, field_at}
-use Rattle.aej_records.specs.Line.{HasNoBar, AreDigits}
+use Rattle.aej_records.specs.Line.{AreDigits}
 use Rattle.aej_records.specs.Text.{behind_bars}
+
+-- a text that can stand between two bars
+abbrev pub HasNoBar : List ℕ → Type 0
+HasNoBar text = All (λ byte. byte ≢ bar) text
+
+-- each byte of the fields is so
+abbrev pub EachHas : (ℕ → Type 0) → List (List ℕ) → Type 0
+EachHas IsSo [] = Unit {0}
+EachHas IsSo (field ∷ fields) = All IsSo field × EachHas IsSo fields
 
 -- no field has a bar
 abbrev pub EachHasNoBar : List (List ℕ) → Type 0
-EachHasNoBar [] = Unit {0}
-EachHasNoBar (field ∷ fields) = HasNoBar field × EachHasNoBar fields
+EachHasNoBar fields = EachHas (λ byte. byte ≢ bar) fields
 
 EachHasNoBar-onto : (byte : ℕ) (fields : List (List ℕ)) → byte ≢ bar → EachHasNoBar fields → EachHasNoBar (onto_first byte fields)
 EachHasNoBar-onto byte [] other each = (All-cons (λ b. b ≢ bar) byte [] other (All-nil (λ b. b ≢ bar)), tt)
@@ -51,32 +59,6 @@ All-front P xs ys all =
 -- nor has the text that fills one
 pub HasNoBar-filled : (text field : List ℕ) → IsFilled text field → HasNoBar field → HasNoBar text
 HasNoBar-filled text field fills whole = All-front (λ b. b ≢ bar) text (spaces fills.0) (rw fills.1 at whole)
-
-pub HasNoBar-one : (byte : ℕ) → byte ≢ bar → HasNoBar (byte ∷ [])
-HasNoBar-one byte other = All-cons (λ b. b ≢ bar) byte [] other (All-nil (λ b. b ≢ bar))
-
-pub HasNoBar-none : HasNoBar []
-HasNoBar-none = All-nil (λ b. b ≢ bar)
-
-pub HasNoBar-append : (front back : List ℕ) → HasNoBar front → HasNoBar back → HasNoBar (front ++ back)
-HasNoBar-append front back in_front in_back = All-append (λ b. b ≢ bar) front back in_front in_back
-
--- nor has a row of texts that have none
-pub HasNoBar-concat : (texts : List (List ℕ)) → EachHasNoBar texts → HasNoBar (concat texts)
-HasNoBar-concat [] each = HasNoBar-none
-HasNoBar-concat (text ∷ texts) each = HasNoBar-append text (concat texts) each.0 (HasNoBar-concat texts each.1)
-
-pub HasNoBar-decimal : (n : ℕ) → n < 2 ^ 64 → HasNoBar (decimal n)
-HasNoBar-decimal n small =
-    decimal_by_steps (λ m ds. HasNoBar ds)
-    (λ m digit. HasNoBar-one (48 + m) (λ is. omega arith))
-    (λ m ds more front. All-push (λ b. b ≢ bar) ds (48 + m % 10) front (λ is. omega arith)) n small
-
-pub HasNoBar-digits : (text : List ℕ) → AreDigits text → HasNoBar text
-HasNoBar-digits text digits = λ k d within is. let digit = digits k d within in omega arith
-
-pub HasNoBar-numeral : (width n : ℕ) → HasNoBar (numeral width n)
-HasNoBar-numeral width n = HasNoBar-digits (numeral width n) (IsDigitByte-numeral width n)
 
 -- a byte that isn't a bar doesn't cut
 IsNotCut : (text : List ℕ) → HasNoBar text → All (λ byte. (byte == bar) ≡ false) text

@@ -2,6 +2,8 @@ pub mod Apart
 pub mod Bars
 pub mod Capped
 pub mod FieldLemmas
+pub mod Lines
+pub mod Plain
 pub mod Printed
 pub mod ReadLemmas
 pub mod RunLemmas

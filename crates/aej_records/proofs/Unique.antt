@@ -121,7 +121,7 @@ optional_number-unique least most (Some m) None text small a_in b_in a_said b_sa
 name-unique : (most : ℕ) (a b text : List ℕ) → IsText most a → IsText most b → IsFilled a text → IsFilled b text → a ≡ b
 name-unique most a b text a_in b_in a_said b_said = IsText-unique most most a b text a_in b_in a_said b_said
 
-length-hours_text : (minutes : ℕ) → length (hours_text minutes) ≡ 4
+pub length-hours_text : (minutes : ℕ) → length (hours_text minutes) ≡ 4
 length-hours_text minutes = (hours_parts (hours_text minutes) minutes refl).size
 
 -- the fields of times are there

@@ -125,22 +125,22 @@ HasNames (Program name version developer developer_name email) =
     (name ≢ []) × (version ≢ []) × (developer_name ≢ []) × (email ≢ [])
 HasNames (Counts counts) = Unit {0}
 
--- a text that can stand between two bars
-abbrev pub HasNoBar : List ℕ → Type 0
-HasNoBar text = All (λ byte. byte ≢ bar) text
+-- each byte of the line's texts is so; a CAEPF or CNO is of digits alone
+abbrev pub TextsHave : (ℕ → Type 0) → AejLine → Type 0
+TextsHave IsSo (Head id caepf cno name first last made) = All IsSo name
+TextsHave IsSo (Rep id kind number) = Unit {0}
+TextsHave IsSo (Link id cpf name) = All IsSo name
+TextsHave IsSo (Schedule code minutes times) = All IsSo code
+TextsHave IsSo (Mark link at rep mark pair source schedule reason) = All IsSo schedule × All IsSo reason
+TextsHave IsSo (Registration link number) = All IsSo number
+TextsHave IsSo (Absence link kind date minutes movement) = Unit {0}
+TextsHave IsSo (Program name version developer developer_name email) =
+    All IsSo name × All IsSo version × All IsSo developer_name × All IsSo email
+TextsHave IsSo (Counts counts) = Unit {0}
 
 -- no text of the line has a bar
 abbrev pub HasNoBars : AejLine → Type 0
-HasNoBars (Head id caepf cno name first last made) = HasNoBar name
-HasNoBars (Rep id kind number) = Unit {0}
-HasNoBars (Link id cpf name) = HasNoBar name
-HasNoBars (Schedule code minutes times) = HasNoBar code
-HasNoBars (Mark link at rep mark pair source schedule reason) = HasNoBar schedule × HasNoBar reason
-HasNoBars (Registration link number) = HasNoBar number
-HasNoBars (Absence link kind date minutes movement) = Unit {0}
-HasNoBars (Program name version developer developer_name email) =
-    HasNoBar name × HasNoBar version × HasNoBar developer_name × HasNoBar email
-HasNoBars (Counts counts) = Unit {0}
+HasNoBars line = TextsHave (λ byte. byte ≢ bar) line
 
 -- a line that can be read from what is written for it
 pub record IsReadable (line : AejLine) : Type 0 where

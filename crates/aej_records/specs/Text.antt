@@ -62,3 +62,12 @@ behind_bars (field ∷ fields) = bar ∷ (field ++ behind_bars fields)
 -- the line: its type, and then its fields
 unfoldable pub line_text : AejLine → List ℕ
 line_text line = type_text (type_of line) ++ behind_bars (fields_text line)
+
+-- no line that is written has more bytes
+abbrev pub longest_written : ℕ
+longest_written = 381
+
+-- The line behind the last one, where the file's signature belongs: this project's own. Unlike that of an AFD it isn't
+-- filled with spaces.
+abbrev pub signature_text : List ℕ
+signature_text = codes "ASSINATURA_DIGITAL_EM_ARQUIVO_P7S"

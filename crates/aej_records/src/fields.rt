@@ -126,8 +126,8 @@ impl<'a> Fields<'a> {
     }
 }
 
-// The first field of a text, and what stands behind its bar, where it has one.
-fn cut(text: &[u8]) -> (&[u8], Option<&[u8]>)
+/// The first field of a text, and what stands behind its bar, where it has one.
+pub fn cut(text: &[u8]) -> (&[u8], Option<&[u8]>)
     ensures { fields_of text.now ≡ result.0.now ∷ fields_behind (option_copied result.1) }
 {
     match first_bar(text) {

@@ -13,6 +13,7 @@
 mod error;
 mod fields;
 mod kind;
+mod laws;
 mod line;
 mod reading;
 mod times;
@@ -20,7 +21,9 @@ mod value;
 mod writing;
 
 pub use error::BadAej;
+pub use kind::LineType;
+pub use laws::written_lines_are_lines;
 pub use line::AejLine;
-pub use reading::read;
+pub use reading::{line_type, read};
 pub use times::{MOST_TIMES, Times};
-pub use writing::print;
+pub use writing::{LONGEST_WRITTEN, SIGNATURE_LEN, print, signature};

@@ -1,15 +1,16 @@
 #![tactic(auto, using(crate::proofs::Spelled::spelled, crate::proofs::Spelled::unspelled, crate::proofs::Spelled::spelled_or_empty))]
 ghost use Rattle.std.specs.Prelude.{◌≡◌, ℕ, ◌≤◌, ◌<◌, length, Ok, Err, IfOk, IfErr};
-ghost use Rattle.rep_fields.specs.Moment.{IsMinuteOfDay};
+ghost use Rattle.rep_fields.specs.Decoding.{Decodes};
 ghost use Rattle.aej_records.specs.Line.{IsReadable};
-ghost use Rattle.aej_records.specs.Text.{line_text};
+ghost use Rattle.aej_records.specs.Fields.{fields_of, field_at};
+ghost use Rattle.aej_records.specs.Text.{line_text, type_text};
 ghost use Rattle.aej_records.specs.Grammar.{ReadsAs, IsFirstBad, IsBadAmong, pairs_in as pairs_of};
 ghost use Rattle.aej_records.specs.Reading.{IsSaid, IsOff, IsSaidBy, IsOwnerAt, IsOwnerOff, AreTimes, AreTimesOff};
 ghost use Rattle.aej_records.specs.declared.kind.LineType.TheVariants as type;
 ghost use Rattle.aej_records.specs.declared.line.AejLine.{AejLine as TheLine};
 
 use crate::error::BadAej;
-use crate::fields::{Fields, MOST_FIELDS};
+use crate::fields::{Fields, MOST_FIELDS, cut};
 use crate::kind::LineType;
 use crate::line::AejLine;
 use crate::times::{MOST_TIMES, Times};
@@ -43,6 +44,15 @@ pub fn read(line: &[u8]) -> Result<AejLine, BadAej>
     ensures printed { (value : TheLine) → IsReadable value → line.now ≡ line_text value → result ≡ Ok value }
 {
     read_fields(&Fields::of(line))
+}
+
+/// The type of a line, whether or not it reads: what stands before its first bar. `None` exactly where that is none of
+/// the nine.
+pub fn line_type(line: &[u8]) -> Option<LineType>
+    ensures { Decodes (λ _. Unit {0}) type_text (field_at 1 (fields_of line.now)) result }
+{
+    let (first, _) = cut(line);
+    read_type(first)
 }
 
 // Reads the fields of a line by its type.

@@ -8,7 +8,7 @@ ghost use Rattle.rep_fields.specs.Moment.{IsMoment, hours_text, moment_text};
 ghost use Rattle.aej_records.specs.Grammar.{ReadsAs};
 ghost use Rattle.aej_records.specs.Line.{HasText, HasNames, HasNoBars, IsInRange, IsPair, IsCount};
 ghost use Rattle.aej_records.specs.Times.{IsTimes};
-ghost use Rattle.aej_records.specs.Text.{line_text, owner_text, optional_text, behind_bars};
+ghost use Rattle.aej_records.specs.Text.{line_text, owner_text, optional_text, behind_bars, signature_text};
 
 use crate::fields::BAR;
 use crate::line::AejLine;
@@ -16,8 +16,13 @@ use crate::times::Times;
 use rep_fields::{Cpf, Day, EmployerId, RepNumber, Row, Stamp, Text, write_time_of_day};
 use rep_io::Piece;
 
-/// No line that is written is longer.
-const LONGEST: usize = 384;
+/// No line that is written has more bytes: type 08 with each text at its longest.
+pub const LONGEST_WRITTEN: usize = 381;
+
+/// The bytes of the line for the file's signature.
+pub const SIGNATURE_LEN: usize = 33;
+
+type LineRow = Row<LONGEST_WRITTEN>;
 
 /// The bytes of a line's type.
 const TYPE_LEN: usize = 2;
@@ -33,6 +38,7 @@ const NUMBER_LEN: usize = 11;
 pub fn print(line: &AejLine) -> Piece
     requires { HasText line.now }
     ensures text { result ≡ line_text line.now }
+    ensures short { length result ≤ LONGEST_WRITTEN }
     ensures reads { HasNames line.now → HasNoBars line.now → ReadsAs result line.now }
 {
     match Piece::make(row_of(line).bytes()) {
@@ -43,7 +49,7 @@ pub fn print(line: &AejLine) -> Piece
 
 // The fields of a line in a row.
 #[tactic(auto, unfolding(crate::specs::Text::line_text))]
-fn row_of(line: &AejLine) -> Row<LONGEST>
+fn row_of(line: &AejLine) -> LineRow
     requires { HasText line.now }
     ensures text { result ≡ line_text line.now }
     ensures in_range { IsInRange line.now }
@@ -134,7 +140,7 @@ fn row_of(line: &AejLine) -> Row<LONGEST>
 
 // The employer in a head.
 fn put_employer(
-    row: &mut Row<LONGEST>,
+    row: &mut LineRow,
     id: &EmployerId,
     caepf: &Text<14>,
     cno: &Text<14>,
@@ -156,8 +162,8 @@ fn put_employer(
 }
 
 // The period of a head, when the file was made, and the version of its layout.
-fn put_period(row: &mut Row<LONGEST>, first: &Day, last: &Day, made: &Stamp)
-    requires room { length row.old + 51 ≤ LONGEST }
+fn put_period(row: &mut LineRow, first: &Day, last: &Day, made: &Stamp)
+    requires room { length row.old + 51 ≤ LONGEST_WRITTEN }
     ensures value { row.new ≡ row.old ++ behind_bars (day_text first.now ∷ day_text last.now ∷ moment_text made.now ∷ codes "001" ∷ []) }
     ensures first { IsDay first.now }
     ensures last { IsDay last.now }
@@ -170,7 +176,7 @@ fn put_period(row: &mut Row<LONGEST>, first: &Day, last: &Day, made: &Stamp)
 }
 
 // What a mark is, and when.
-fn put_moment(row: &mut Row<LONGEST>, link: u32, at: &Stamp, rep: Option<u32>, mark: u8)
+fn put_moment(row: &mut LineRow, link: u32, at: &Stamp, rep: Option<u32>, mark: u8)
     requires { length row.old ≤ TYPE_LEN }
     ensures value { row.new ≡ row.old ++ behind_bars (decimal link ∷ moment_text at.now ∷ optional_text decimal rep ∷ (mark ∷ []) ∷ []) }
     ensures len { length row.new ≤ length row.old + 49 }
@@ -184,13 +190,13 @@ fn put_moment(row: &mut Row<LONGEST>, link: u32, at: &Stamp, rep: Option<u32>, m
 
 // Where a mark belongs, and where it comes from.
 fn put_origin(
-    row: &mut Row<LONGEST>,
+    row: &mut LineRow,
     pair: Option<u16>,
     source: u8,
     schedule: &Text<30>,
     reason: &Text<150>,
 )
-    requires room { length row.old + 188 ≤ LONGEST }
+    requires room { length row.old + 188 ≤ LONGEST_WRITTEN }
     requires pair { IfSome pair IsPair }
     ensures value { row.new ≡ row.old ++ behind_bars (optional_text (numeral 3) pair ∷ (source ∷ []) ∷ schedule.now ∷ reason.now ∷ []) }
     ensures schedule { IsText 30 schedule.now }
@@ -203,7 +209,7 @@ fn put_origin(
 }
 
 fn put_absence(
-    row: &mut Row<LONGEST>,
+    row: &mut LineRow,
     link: u32,
     kind: u8,
     date: &Day,
@@ -222,7 +228,7 @@ fn put_absence(
 }
 
 fn put_program(
-    row: &mut Row<LONGEST>,
+    row: &mut LineRow,
     name: &Text<150>,
     version: &Text<8>,
     developer: &EmployerId,
@@ -246,8 +252,8 @@ fn put_program(
 }
 
 // The kind of an id, and its 14 or 11 digits.
-fn put_owner(row: &mut Row<LONGEST>, id: &EmployerId)
-    requires room { length row.old + 17 ≤ LONGEST }
+fn put_owner(row: &mut LineRow, id: &EmployerId)
+    requires room { length row.old + 17 ≤ LONGEST_WRITTEN }
     requires id { IsEmployerId id.now }
     ensures value { row.new ≡ row.old ++ behind_bars ((kind_byte id.now ∷ []) ∷ owner_text id.now ∷ []) }
     ensures len { length row.new ≤ length row.old + 17 }
@@ -259,8 +265,8 @@ fn put_owner(row: &mut Row<LONGEST>, id: &EmployerId)
     }
 }
 
-fn put_times(row: &mut Row<LONGEST>, times: &Times)
-    requires { length row.old + 100 ≤ LONGEST }
+fn put_times(row: &mut LineRow, times: &Times)
+    requires { length row.old + 100 ≤ LONGEST_WRITTEN }
     ensures value { row.new ≡ row.old ++ behind_bars (map hours_text times.now) }
     ensures times { IsTimes times.now }
 {
@@ -269,7 +275,7 @@ fn put_times(row: &mut Row<LONGEST>, times: &Times)
     }
 }
 
-fn put_counts(row: &mut Row<LONGEST>, counts: &[u32; 8])
+fn put_counts(row: &mut LineRow, counts: &[u32; 8])
     requires { length row.old ≤ TYPE_LEN }
     ensures value { row.new ≡ row.old ++ behind_bars (map decimal counts.now) }
     ensures all { length counts.now ≡ 8 }
@@ -280,8 +286,8 @@ fn put_counts(row: &mut Row<LONGEST>, counts: &[u32; 8])
 }
 
 // The number of a pair in three digits, where there is one.
-fn put_pair(row: &mut Row<LONGEST>, pair: Option<u16>)
-    requires room { length row.old + 4 ≤ LONGEST }
+fn put_pair(row: &mut LineRow, pair: Option<u16>)
+    requires room { length row.old + 4 ≤ LONGEST_WRITTEN }
     requires pair { IfSome pair IsPair }
     ensures value { row.new ≡ row.old ++ bar ∷ optional_text (numeral 3) pair }
     ensures len { length row.new ≤ length row.old + 4 }
@@ -293,8 +299,8 @@ fn put_pair(row: &mut Row<LONGEST>, pair: Option<u16>)
 }
 
 // A number, where there is one.
-fn put_optional(row: &mut Row<LONGEST>, value: Option<u32>)
-    requires { length row.old + NUMBER_LEN ≤ LONGEST }
+fn put_optional(row: &mut LineRow, value: Option<u32>)
+    requires { length row.old + NUMBER_LEN ≤ LONGEST_WRITTEN }
     ensures value { row.new ≡ row.old ++ bar ∷ optional_text decimal value }
     ensures len { length row.new ≤ length row.old + NUMBER_LEN }
 {
@@ -306,8 +312,8 @@ fn put_optional(row: &mut Row<LONGEST>, value: Option<u32>)
 
 // A number with the bar before it.
 #[tactic(auto, using(crate::proofs::WritingLemmas::length_decimal))]
-fn put_number(row: &mut Row<LONGEST>, value: u32)
-    requires { length row.old + NUMBER_LEN ≤ LONGEST }
+fn put_number(row: &mut LineRow, value: u32)
+    requires { length row.old + NUMBER_LEN ≤ LONGEST_WRITTEN }
     ensures value { row.new ≡ row.old ++ bar ∷ decimal value }
     ensures len { length row.new ≤ length row.old + NUMBER_LEN }
 {
@@ -315,8 +321,8 @@ fn put_number(row: &mut Row<LONGEST>, value: u32)
     row.push_decimal(u64::from(value));
 }
 
-fn put_letter(row: &mut Row<LONGEST>, letter: u8)
-    requires { length row.old + 2 ≤ LONGEST }
+fn put_letter(row: &mut LineRow, letter: u8)
+    requires { length row.old + 2 ≤ LONGEST_WRITTEN }
     ensures value { row.new ≡ row.old ++ bar ∷ letter ∷ [] }
     ensures len { length row.new ≡ length row.old + 2 }
 {
@@ -325,11 +331,19 @@ fn put_letter(row: &mut Row<LONGEST>, letter: u8)
 }
 
 // A field with the bar before it.
-fn put_field(row: &mut Row<LONGEST>, text: &[u8])
-    requires { length row.old + 1 + length text.now ≤ LONGEST }
+fn put_field(row: &mut LineRow, text: &[u8])
+    requires { length row.old + 1 + length text.now ≤ LONGEST_WRITTEN }
     ensures value { row.new ≡ row.old ++ bar ∷ text.now }
     ensures len { length row.new ≡ length row.old + 1 + length text.now }
 {
     row.push(BAR);
     row.push_bytes(text);
+}
+
+/// The line behind the last one of a file, where its signature belongs, without its end. Unlike that of an AFD it isn't
+/// filled with spaces.
+pub fn signature() -> [u8; SIGNATURE_LEN]
+    ensures { result ≡ signature_text }
+{
+    *b"ASSINATURA_DIGITAL_EM_ARQUIVO_P7S"
 }
