@@ -48,8 +48,10 @@ IsFirstOff-whole place [] fields number within off = (omega (arith, length-take 
 IsFirstOff-whole place (kind ∷ kinds) fields number within (inl here) =
     inl (subst (λ text. ¬ IsField kind text) (field_at-take place fields (omega arith)) here.0, here.1)
 IsFirstOff-whole place (kind ∷ kinds) fields number within (inr behind) =
-    inr (subst (IsField kind) (field_at-take place fields (omega arith)) behind.0,
-    IsFirstOff-whole (place + 1) kinds fields number (omega arith) behind.1)
+    inr (
+      subst (IsField kind) (field_at-take place fields (omega arith)) behind.0,
+      IsFirstOff-whole (place + 1) kinds fields number (omega arith) behind.1,
+    )
 
 -- a field that is bad among the first ones is bad among all
 pub IsBadAmong-whole : (fields : List (List ℕ)) (number : ℕ) → IsBadAmong (take 24 fields) number → IsBadAmong fields number
@@ -58,9 +60,12 @@ IsBadAmong-whole fields number (inl none) =
 IsBadAmong-whole fields number (inr off) =
     let kinds = kinds_of-take off.0 fields in
     let within : 2 + length (kinds_of off.0 fields) ≤ 24 = omega (arith, length-kinds_of off.0 fields) in
-    inr (off.0, sym (field_at-take 1 fields (omega arith)) ∙ off.1,
-    IsFirstOff-whole 2 (kinds_of off.0 fields) fields number within
-    (subst (λ ks. IsFirstOff 2 ks (take 24 fields) number) kinds off.2))
+    inr (
+      off.0,
+      sym (field_at-take 1 fields (omega arith)) ∙ off.1,
+      IsFirstOff-whole 2 (kinds_of off.0 fields) fields number within
+          (subst (λ ks. IsFirstOff 2 ks (take 24 fields) number) kinds off.2),
+    )
 
 length-said : (line : AejLine) (fields : List (List ℕ)) → IsInRange line → Says line fields → length fields ≤ 23
 length-said (Head id caepf cno name first last made) fields in_range said = omega (arith, said.8)

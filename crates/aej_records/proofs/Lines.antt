@@ -12,7 +12,7 @@ use Rattle.rep_fields.specs.declared.employer.EmployerId.{EmployerId}
 use Rattle.rep_fields.specs.declared.employer.EmployerId.TheVariants.{Cnpj, Person}
 use Rattle.rep_fields.proofs.Numerals.{length-numeral}
 use Rattle.rep_fields.proofs.StampTexts.{length-day_text, moment_parts}
-use Rattle.aej_records.specs.Line.{type_of, IsBetween, IsInRange, TextsHave}
+use Rattle.aej_records.specs.Line.{type_of, IsBetween, HasText, IsInRange, TextsHave}
 use Rattle.aej_records.specs.Text.{type_text, owner_text, optional_text, fields_text, behind_bars, line_text}
 use Rattle.aej_records.specs.declared.kind.LineType.{LineType}
 use Rattle.aej_records.specs.declared.kind.LineType.TheVariants as type
@@ -112,13 +112,26 @@ barred-line (Link id cpf name) in_range =
 barred-line (Schedule code minutes times) in_range =
     omega (arith, in_range.0.short, length-number 1 1440 minutes (omega arith) in_range.1, barred-times times, in_range.2.few)
 barred-line (Mark link at rep mark pair source schedule reason) in_range =
-    omega (arith, length-number 1 999999999 link (omega arith) in_range.0, length-moment_text at, length-optional_number 1 999999999 rep (omega arith) in_range.2,
-    length-optional_pair pair, in_range.6.short, in_range.7.short)
+    omega (
+      arith,
+      length-number 1 999999999 link (omega arith) in_range.0,
+      length-moment_text at,
+      length-optional_number 1 999999999 rep (omega arith) in_range.2,
+      length-optional_pair pair,
+      in_range.6.short,
+      in_range.7.short,
+    )
 barred-line (Registration link number) in_range =
     omega (arith, length-number 1 999999999 link (omega arith) in_range.0, in_range.1.short)
 barred-line (Absence link kind date minutes movement) in_range =
-    omega (arith, length-number 1 999999999 link (omega arith) in_range.0, length-number 1 4 kind (omega arith) in_range.1, length-day_text date,
-    length-optional_number 0 99999 minutes (omega arith) in_range.3, length-optional_number 1 2 movement (omega arith) in_range.4)
+    omega (
+      arith,
+      length-number 1 999999999 link (omega arith) in_range.0,
+      length-number 1 4 kind (omega arith) in_range.1,
+      length-day_text date,
+      length-optional_number 0 99999 minutes (omega arith) in_range.3,
+      length-optional_number 1 2 movement (omega arith) in_range.4,
+    )
 barred-line (Program name version developer developer_name email) in_range =
     omega (arith, in_range.0.short, in_range.1.short, length-owner_text developer, in_range.3.short, in_range.4.short)
 barred-line (Counts counts) in_range =
@@ -127,5 +140,23 @@ barred-line (Counts counts) in_range =
 pub length-line_text : (line : AejLine) → IsInRange line → length (line_text line) ≤ 381
 unfolding line_text
 length-line_text line in_range =
-    omega (arith, length-append (type_text (type_of line)) (behind_bars (fields_text line)), length-type_text (type_of line),
-    length-behind_bars (fields_text line), barred-line line in_range)
+    omega (
+      arith,
+      length-append (type_text (type_of line)) (behind_bars (fields_text line)),
+      length-type_text (type_of line),
+      length-behind_bars (fields_text line),
+      barred-line line in_range,
+    )
+
+-- the parts of a line that reads are in the ranges that are asked for writing
+pub HasText-in_range : (line : AejLine) → IsInRange line → HasText line
+HasText-in_range (Head id caepf cno name first last made) in_range = (in_range.0, in_range.1.1, in_range.2.1)
+HasText-in_range (Rep id kind number) in_range = (in_range.0, in_range.1)
+HasText-in_range (Link id cpf name) in_range = in_range.0
+HasText-in_range (Schedule code minutes times) in_range = in_range.1
+HasText-in_range (Mark link at rep mark pair source schedule reason) in_range =
+    (in_range.0, in_range.2, in_range.3, in_range.4, in_range.5)
+HasText-in_range (Registration link number) in_range = in_range.0
+HasText-in_range (Absence link kind date minutes movement) in_range = (in_range.0, in_range.1, in_range.3, in_range.4)
+HasText-in_range (Program name version developer developer_name email) in_range = in_range.2
+HasText-in_range (Counts counts) in_range = in_range.1

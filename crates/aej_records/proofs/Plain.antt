@@ -125,7 +125,6 @@ IsPlain-rep_number number valid = λ k d within. record { latin = valid.latin k 
 
 -- where plain bytes are so, and those of the line's texts are, each byte of its fields is
 module _ (IsSo : ℕ → Type 0) (plain : (byte : ℕ) → IsRepByte byte → IsSo byte) where
-
   so : (text : List ℕ) → IsPlain text → All IsSo text
   so text each = λ k d within. plain _ (each k d within)
 
@@ -140,25 +139,63 @@ module _ (IsSo : ℕ → Type 0) (plain : (byte : ℕ) → IsRepByte byte → Is
       (so (decimal count) (IsPlain-decimal count (omega arith)), each-counts counts in_range.1)
 
   pub EachHas-line : (line : AejLine) → IsInRange line → TextsHave IsSo line → EachHas IsSo (fields_text line)
-  EachHas-line (Head id caepf cno name first last made) in_range texts =
-      (so (kind_byte id ∷ []) (IsPlain-kind_byte id), (so _ (IsPlain-owner_text id), (so _ (IsPlain-digits caepf in_range.1.1), (so _ (IsPlain-digits cno in_range.2.1),
-      (texts, (so _ (IsPlain-day_text first), (so _ (IsPlain-day_text last), (so _ (IsPlain-moment_text made),
-      (so (codes "001") (IsPlain-append (48 ∷ []) (48 ∷ 49 ∷ []) (IsPlain-one 48 (omega arith) (omega arith))
-      (IsPlain-two 48 49 (omega arith) (omega arith) (omega arith) (omega arith))), tt)))))))))
+  EachHas-line (Head id caepf cno name first last made) in_range texts = (
+    so (kind_byte id ∷ []) (IsPlain-kind_byte id),
+    (
+      so _ (IsPlain-owner_text id),
+      (
+        so _ (IsPlain-digits caepf in_range.1.1),
+        (
+          so _ (IsPlain-digits cno in_range.2.1),
+          (
+            texts,
+            (
+              so _ (IsPlain-day_text first),
+              (
+                so _ (IsPlain-day_text last),
+                (
+                  so _ (IsPlain-moment_text made),
+                  (
+                    so (codes "001") (IsPlain-append (48 ∷ []) (48 ∷ 49 ∷ []) (IsPlain-one 48 (omega arith) (omega arith))
+                        (IsPlain-two 48 49 (omega arith) (omega arith) (omega arith) (omega arith))),
+                    tt,
+                  ),
+                ),
+              ),
+            ),
+          ),
+        ),
+      ),
+    ),
+  )
   EachHas-line (Rep id kind number) in_range texts =
       (so _ (IsPlain-decimal id (omega (arith, in_range.0))), (so _ (IsPlain-decimal kind (omega (arith, in_range.1))), (so _ (IsPlain-rep_number number in_range.2), tt)))
   EachHas-line (Link id cpf name) in_range texts =
       (so _ (IsPlain-decimal id (omega (arith, in_range.0))), (so _ (IsPlain-numeral 11 cpf), (texts, tt)))
   EachHas-line (Schedule code minutes times) in_range texts =
       (texts, (so _ (IsPlain-decimal minutes (omega (arith, in_range.1))), each-times times))
-  EachHas-line (Mark link at rep mark pair source schedule reason) in_range texts =
-      (so _ (IsPlain-decimal link (omega (arith, in_range.0))), (so _ (IsPlain-moment_text at), (so _ (IsPlain-optional_number 1 999999999 rep (omega arith) in_range.2),
-      (so (mark ∷ []) (IsPlain-mark mark in_range.3), (so _ (IsPlain-optional_pair pair), (so (source ∷ []) (IsPlain-source source in_range.5), (texts.0, (texts.1, tt))))))))
+  EachHas-line (Mark link at rep mark pair source schedule reason) in_range texts = (
+    so _ (IsPlain-decimal link (omega (arith, in_range.0))),
+    (
+      so _ (IsPlain-moment_text at),
+      (
+        so _ (IsPlain-optional_number 1 999999999 rep (omega arith) in_range.2),
+        (so (mark ∷ []) (IsPlain-mark mark in_range.3), (so _ (IsPlain-optional_pair pair), (so (source ∷ []) (IsPlain-source source in_range.5), (texts.0, (texts.1, tt))))),
+      ),
+    ),
+  )
   EachHas-line (Registration link number) in_range texts =
       (so _ (IsPlain-decimal link (omega (arith, in_range.0))), (texts, tt))
-  EachHas-line (Absence link kind date minutes movement) in_range texts =
-      (so _ (IsPlain-decimal link (omega (arith, in_range.0))), (so _ (IsPlain-decimal kind (omega (arith, in_range.1))), (so _ (IsPlain-day_text date),
-      (so _ (IsPlain-optional_number 0 99999 minutes (omega arith) in_range.3), (so _ (IsPlain-optional_number 1 2 movement (omega arith) in_range.4), tt)))))
+  EachHas-line (Absence link kind date minutes movement) in_range texts = (
+    so _ (IsPlain-decimal link (omega (arith, in_range.0))),
+    (
+      so _ (IsPlain-decimal kind (omega (arith, in_range.1))),
+      (
+        so _ (IsPlain-day_text date),
+        (so _ (IsPlain-optional_number 0 99999 minutes (omega arith) in_range.3), (so _ (IsPlain-optional_number 1 2 movement (omega arith) in_range.4), tt)),
+      ),
+    ),
+  )
   EachHas-line (Program name version developer developer_name email) in_range texts =
       (texts.0, (texts.1, (so (kind_byte developer ∷ []) (IsPlain-kind_byte developer), (so _ (IsPlain-owner_text developer), (texts.2, (texts.3, tt))))))
   EachHas-line (Counts counts) in_range texts = each-counts counts (recursion_from_All (IsBetween 0 999999999) counts in_range.1)

@@ -40,6 +40,7 @@ decimal-numeral n small = decimal_by_steps IsOwnNumeral one more n small
           written = sym (numeral_more 0 m ∙ ap (λ front. front ++ (48 + m % 10) ∷ []) (numeral-none (m / 10)) ∙ ap (λ d. (48 + d) ∷ []) last);
           fits = digit;
         }
+
     more : (m : ℕ) (front : List ℕ) → 10 ≤ m → IsOwnNumeral (m / 10) front → IsOwnNumeral m (front ++ (48 + m % 10) ∷ [])
     more m front big own =
         let size : length (front ++ (48 + m % 10) ∷ []) ≡ length front + 1 = length_push front (48 + m % 10) in
@@ -55,23 +56,31 @@ decimal-numeral n small = decimal_by_steps IsOwnNumeral one more n small
 -- a number of at most nine digits can be read from its decimal
 IsNumeralText-decimal : (n : ℕ) → n ≤ 999999999 → IsNumeralText 9 n (decimal n)
 IsNumeralText-decimal n few =
-    let own = decimal-numeral n (omega arith) in
-    (length (decimal n), record {
-      some = omega (arith, decimal_nonempty n (omega arith));
-      within = length-decimal-le 9 n (omega arith) (omega arith) (omega arith);
-      fits = own.fits;
-      written = own.written;
-    })
+    let own = decimal-numeral n (omega arith) in (
+      length (decimal n),
+      record {
+        some = omega (arith, decimal_nonempty n (omega arith));
+        within = length-decimal-le 9 n (omega arith) (omega arith) (omega arith);
+        fits = own.fits;
+        written = own.written;
+      },
+    )
 
 IsStampText-moment : (moment : Moment) → IsMoment moment → IsStampText moment (moment_text moment)
-IsStampText-moment moment in_range =
-    (false, (0, false, record {
+IsStampText-moment moment in_range = (
+  false,
+  (
+    0,
+    false,
+    record {
       in_range = in_range;
       in_minute = omega arith;
       at_zero = λ wrong. absurd (cc);
       text = refl;
       told_odd = (λ wrong. absurd (cc), λ odd. elim odd [ inl some ↦ absurd (some refl) | inr wrong ↦ absurd (cc) ]);
-    }))
+    },
+  ),
+)
 
 IsFilled-same : (text : List ℕ) → IsFilled text text
 IsFilled-same text = (0, sym (append-nil text))
@@ -117,9 +126,17 @@ says_line (Rep id kind number) in_range = (IsNumeralText-decimal id in_range.0.1
 says_line (Link id cpf name) in_range = (IsNumeralText-decimal id in_range.0.1, refl, IsFilled-same name, omega arith)
 says_line (Schedule code minutes times) in_range =
     (IsFilled-same code, refl, AreWritten-behind_three hours_text times _ _ _, omega (arith, length-map times hours_text))
-says_line (Mark link at rep mark pair source schedule reason) in_range =
-    (IsNumeralText-decimal link in_range.0.1, IsStampText-moment at in_range.1, IsOptionalText-id rep in_range.2, refl,
-    IsOptionalText-pair pair in_range.4, refl, IsFilled-same schedule, IsFilled-same reason, omega arith)
+says_line (Mark link at rep mark pair source schedule reason) in_range = (
+  IsNumeralText-decimal link in_range.0.1,
+  IsStampText-moment at in_range.1,
+  IsOptionalText-id rep in_range.2,
+  refl,
+  IsOptionalText-pair pair in_range.4,
+  refl,
+  IsFilled-same schedule,
+  IsFilled-same reason,
+  omega arith,
+)
 says_line (Registration link number) in_range = (IsNumeralText-decimal link in_range.0.1, IsFilled-same number, omega arith)
 says_line (Absence link kind date minutes movement) in_range =
     (IsNumeralText-decimal link in_range.0.1, refl, refl, IsOptionalText-number minutes, IsOptionalText-number movement, omega arith)

@@ -24,9 +24,12 @@ HasNoBars-said (Mark link at rep mark pair source schedule reason) text said =
     (HasNoBar-filled schedule _ said.6 (HasNoBar-field_at 8 text), HasNoBar-filled reason _ said.7 (HasNoBar-field_at 9 text))
 HasNoBars-said (Registration link number) text said = HasNoBar-filled number _ said.1 (HasNoBar-field_at 3 text)
 HasNoBars-said (Absence link kind date minutes movement) text said = tt
-HasNoBars-said (Program name version developer developer_name email) text said =
-    (HasNoBar-filled name _ said.0 (HasNoBar-field_at 2 text), HasNoBar-filled version _ said.1 (HasNoBar-field_at 3 text),
-    HasNoBar-filled developer_name _ said.3 (HasNoBar-field_at 6 text), HasNoBar-filled email _ said.4 (HasNoBar-field_at 7 text))
+HasNoBars-said (Program name version developer developer_name email) text said = (
+  HasNoBar-filled name _ said.0 (HasNoBar-field_at 2 text),
+  HasNoBar-filled version _ said.1 (HasNoBar-field_at 3 text),
+  HasNoBar-filled developer_name _ said.3 (HasNoBar-field_at 6 text),
+  HasNoBar-filled email _ said.4 (HasNoBar-field_at 7 text),
+)
 HasNoBars-said (Counts counts) text said = tt
 
 pub found_whole : (text : List ℕ) (fields : List (List ℕ)) (result : Result AejLine BadAej) → fields ≡ take 24 (fields_of text)
@@ -66,7 +69,6 @@ right_refusal text (Err bad) is_found is_bad number first =
 -- the answer that the line's first fields get is the only right one
 module _ (text : List ℕ) (fields : List (List ℕ)) (result : Result AejLine BadAej) (is : fields ≡ take 24 (fields_of text))
     (found : IfOk result (IsSaidBy fields)) (off : IfErr result (λ bad. IsBadAmong fields bad.field)) where
-
   pub only_answer : (line : AejLine) → ReadsAs text line → result ≡ Ok line
   only_answer line reads = right_answer text result (found_whole text fields result is found) (bad_whole text fields result is off) line reads
 

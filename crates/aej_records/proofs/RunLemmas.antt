@@ -31,16 +31,22 @@ off_in_run kind place (suc total) zero number fields within fit off is =
     inl (subst (λ n. ¬ IsField kind (field_at n fields)) at off, is ∙ at)
 off_in_run kind place (suc total) (suc count) number fields within fit off is =
     let at : place + suc count ≡ place + 1 + count = omega arith in
-    inr (AreOfKind-first kind place count fields fit, off_in_run kind (place + 1) total count number fields (omega arith)
-    (AreOfKind-behind kind place count fields fit) (subst (λ n. ¬ IsField kind (field_at n fields)) at off) (is ∙ at))
+    inr (
+      AreOfKind-first kind place count fields fit,
+      off_in_run kind (place + 1) total count number fields (omega arith)
+          (AreOfKind-behind kind place count fields fit) (subst (λ n. ¬ IsField kind (field_at n fields)) at off) (is ∙ at),
+    )
 
 -- a field behind the run
 pub past_run : (kind : FieldKind) (place total number : ℕ) (fields : List (List ℕ)) → AreOfKind kind place total fields
     → place + total ≤ length fields → number ≡ place + total → IsFirstOff place (replicate total kind) fields number
 past_run kind place zero number fields fit more is = (omega arith, is ∙ omega arith)
 past_run kind place (suc total) number fields fit more is =
-    inr (AreOfKind-first kind place total fields fit, past_run kind (place + 1) total number fields
-    (AreOfKind-behind kind place total fields fit) (omega arith) (is ∙ omega arith))
+    inr (
+      AreOfKind-first kind place total fields fit,
+      past_run kind (place + 1) total number fields
+          (AreOfKind-behind kind place total fields fit) (omega arith) (is ∙ omega arith),
+    )
 
 -- each of the first elements is so
 pub All-taken : (P : ℕ → Type 0) (xs : List ℕ) (count : ℕ) → count ≤ length xs

@@ -1,7 +1,7 @@
 //! Laws of the lines that are written.
 ghost use Rattle.std.specs.Prelude.{◌≤◌, length, All};
 ghost use Rattle.rep_fields.specs.Latin.{IsLatin};
-ghost use Rattle.aej_records.specs.Line.{IsInRange};
+ghost use Rattle.aej_records.specs.Line.{HasText, IsInRange};
 ghost use Rattle.aej_records.specs.Text.{line_text, longest_written};
 ghost use Rattle.aej_records.specs.declared.line.AejLine.{AejLine as TheLine};
 
@@ -10,4 +10,9 @@ ghost use Rattle.aej_records.specs.declared.line.AejLine.{AejLine as TheLine};
 pub fn written_lines_are_lines()
     ensures short { (line : TheLine) → IsInRange line → length (line_text line) ≤ longest_written }
     ensures printable { (line : TheLine) → IsInRange line → All IsLatin (line_text line) }
+{}
+
+/// Each line that reads can be written.
+pub fn read_lines_can_be_written()
+    ensures { (line : TheLine) → IsInRange line → HasText line }
 {}

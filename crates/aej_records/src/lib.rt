@@ -11,18 +11,22 @@
 #![tactic(auto)]
 
 mod error;
+#[cfg(test)]
+mod field_tests;
 mod fields;
 mod kind;
 mod laws;
 mod line;
 mod reading;
+#[cfg(test)]
+mod tests;
 mod times;
 mod value;
 mod writing;
 
 pub use error::BadAej;
 pub use kind::LineType;
-pub use laws::written_lines_are_lines;
+pub use laws::{read_lines_can_be_written, written_lines_are_lines};
 pub use line::AejLine;
 pub use reading::{line_type, read};
 pub use times::{MOST_TIMES, Times};

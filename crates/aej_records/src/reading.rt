@@ -1,4 +1,5 @@
 #![tactic(auto, using(crate::proofs::Spelled::spelled, crate::proofs::Spelled::unspelled, crate::proofs::Spelled::spelled_or_empty))]
+
 ghost use Rattle.std.specs.Prelude.{◌≡◌, ℕ, ◌≤◌, ◌<◌, length, Ok, Err, IfOk, IfErr};
 ghost use Rattle.rep_fields.specs.Decoding.{Decodes};
 ghost use Rattle.aej_records.specs.Line.{IsReadable};
