@@ -1,16 +1,13 @@
 -- A line that reads has no bad field, and one that doesn't has one first bad field.
-use Rattle.std.proofs.Common.{◌≡◌, ◌≢◌, ℕ, ◌+◌, ◌*◌, ◌<◌, ◌≤◌, ◌⊎◌, inl, inr, List, [], ◌∷◌, length, replicate, slice_index, Option, Some, None, IfSome, All, refl, sym, ap, ◌∙◌, subst, decimal, arith}
-use Rattle.rep_fields.specs.Employer.{IsEmployerId, kind_byte}
-use Rattle.rep_fields.specs.Moment.{IsMinuteOfDay, hours_text}
+use Rattle.std.proofs.Common.{◌≡◌, ℕ, ◌+◌, ◌*◌, ◌⊎◌, inl, inr, List, [], ◌∷◌, length, slice_index, Option, Some, None, IfSome, sym, ◌∙◌, subst, arith}
+use Rattle.rep_fields.specs.Employer.{kind_byte}
 use Rattle.rep_fields.specs.declared.employer.EmployerId.{EmployerId}
-use Rattle.aej_records.specs.Fields.{fields_of, field_at}
-use Rattle.aej_records.specs.Grammar.{FieldKind, IsField, IsSpelled, IsOptionalText, IsOwnerText, AreWritten, kinds_of, pairs_in, IsFirstOff, IsNoType, IsBadAmong, IsFirstBad, Says, ReadsAs, owner_kind_field, owner_field, time_field, number_field}
-use Rattle.aej_records.specs.Line.{type_of, IsCount, IsInRange, HasNames}
-use Rattle.aej_records.specs.Text.{type_text}
-use Rattle.aej_records.specs.declared.kind.LineType.{LineType}
+use Rattle.aej_records.specs.Fields.{fields_of}
+use Rattle.aej_records.specs.Grammar.{FieldKind, IsField, IsSpelled, IsOptionalText, IsOwnerText, kinds_of, pairs_in, IsFirstOff, IsFirstBad, Says, ReadsAs, owner_kind_field, time_field, number_field}
+use Rattle.aej_records.specs.Line.{type_of, IsInRange, HasNames}
 use Rattle.aej_records.specs.declared.line.AejLine.{AejLine}
 use Rattle.aej_records.specs.declared.line.AejLine.TheVariants.{Head, Rep, Link, Schedule, Mark, Registration, Absence, Program, Counts}
-use Rattle.aej_records.proofs.RunLemmas.{AreOfKind, no_field_past_run}
+use Rattle.aej_records.proofs.RunLemmas.{no_field_past_run}
 use Rattle.aej_records.proofs.Spelled.{IsOwnerKind-kind_byte}
 use Rattle.aej_records.proofs.Unique.{type_text-injective, length-timed}
 

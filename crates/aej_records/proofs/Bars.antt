@@ -1,17 +1,13 @@
 -- Texts without bars, and the fields that a line of them has.
-use Rattle.std.proofs.Common.{◌≡◌, ◌≢◌, ℕ, zero, suc, ◌+◌, ◌<◌, ◌%◌, ◌^◌, ◌==◌, List, [], ◌∷◌, ◌++◌, length, get_or, take, map, All, true, false, codes, decimal, Option, Some, None, refl, sym, ap, ◌∙◌, subst, inl, inr, arith, append-nil}
-use Rattle.std.specs.List.{slice_split, onto_first, concat}
+use Rattle.std.proofs.Common.{◌≡◌, ◌≢◌, ℕ, zero, suc, ◌==◌, List, [], ◌∷◌, ◌++◌, length, get_or, take, All, false, refl, ap, ◌∙◌, subst, inl, inr, arith, append-nil}
+use Rattle.std.specs.List.{onto_first}
 use Rattle.std.proofs.lemmas.Bool.{cases_Bool, eqb-false, ne_eqb}
-use Rattle.std.proofs.lemmas.Fmt.{decimal_by_steps}
 use Rattle.std.proofs.lemmas.List.{take_all, take-append-le}
-use Rattle.std.proofs.lemmas.List.Elements.{All-nil, All-cons, All-push, All-append, All-take}
+use Rattle.std.proofs.lemmas.List.Elements.{All-nil, All-cons, All-take}
 use Rattle.std.proofs.lemmas.List.Splits.{slice_split-cons_no, slice_split-cons_yes, slice_split_at, slice_split_none}
-use Rattle.rep_fields.specs.Digits.{numeral, IsDigitByte}
 use Rattle.rep_fields.specs.Identity.{bar}
 use Rattle.rep_fields.specs.Latin.{IsFilled, spaces}
-use Rattle.rep_fields.proofs.Numerals.{IsDigitByte-numeral}
 use Rattle.aej_records.specs.Fields.{fields_of, field_at}
-use Rattle.aej_records.specs.Line.{AreDigits}
 use Rattle.aej_records.specs.Text.{behind_bars}
 
 -- a text that can stand between two bars

@@ -1,9 +1,8 @@
 -- The first 24 fields of a line tell of all of them: no line on the grammar has more than 23.
-use Rattle.std.proofs.Common.{◌≡◌, ℕ, ◌+◌, ◌-◌, ◌*◌, ◌<◌, ◌≤◌, inl, inr, List, [], ◌∷◌, length, take, replicate, refl, sym, ap, ◌∙◌, subst, arith, get_or-take, length-take}
+use Rattle.std.proofs.Common.{◌≡◌, ℕ, ◌+◌, ◌-◌, ◌*◌, ◌≤◌, inl, inr, List, [], ◌∷◌, length, take, replicate, refl, sym, ap, ◌∙◌, subst, arith, get_or-take, length-take}
 use Rattle.std.proofs.lemmas.List.{take_all, length-replicate}
-use Rattle.std.proofs.lemmas.Bool.{cases_lt}
-use Rattle.aej_records.specs.Fields.{fields_of, field_at}
-use Rattle.aej_records.specs.Grammar.{FieldKind, IsField, kinds_of, pairs_in, time_field, name_field, number_field, IsFirstOff, IsBadAmong, Says, owner_kind_field, owner_field, works_field, day_field, stamp_field, version_field}
+use Rattle.aej_records.specs.Fields.{field_at}
+use Rattle.aej_records.specs.Grammar.{FieldKind, IsField, kinds_of, pairs_in, time_field, name_field, number_field, IsFirstOff, IsBadAmong, Says}
 use Rattle.aej_records.specs.Line.{IsInRange}
 use Rattle.aej_records.specs.Reading.{IsSaidBy}
 use Rattle.aej_records.specs.declared.kind.LineType.{LineType}

@@ -1,6 +1,6 @@
 -- Laws of the fields of a line.
-use Rattle.std.proofs.Common.{◌≡◌, ◌≢◌, ℕ, ◌+◌, ◌-◌, ◌<◌, ◌≤◌, ◌==◌, List, [], ◌∷◌, ◌++◌, length, get_or, set, map, take, drop, Bool, true, false, cond, not, Option, Some, None, position, All, refl, sym, ap, ◌∙◌, subst, inl, inr, arith, length-drop, length-take, append-nil, append_assoc}
-use Rattle.std.specs.List.{slice_split, onto_first, position_or_len}
+use Rattle.std.proofs.Common.{◌≡◌, ℕ, ◌+◌, ◌-◌, ◌<◌, ◌≤◌, List, [], ◌∷◌, ◌++◌, length, get_or, set, map, take, drop, Bool, true, false, cond, not, Some, None, position, refl, sym, ap, ◌∙◌, inl, inr, arith, length-drop, length-take, append-nil, append_assoc}
+use Rattle.std.specs.List.{slice_split, position_or_len}
 use Rattle.std.proofs.lemmas.Bool.{cases_lt, lt-ltb, le-ltb}
 use Rattle.std.proofs.lemmas.List.{take_all, take_at, take_more_set, map-set, length-map}
 use Rattle.std.proofs.lemmas.List.Splits.{slice_split_first, slice_split_none}

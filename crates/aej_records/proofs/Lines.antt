@@ -1,11 +1,10 @@
 -- What is written for a line is a line: short, and of printable characters.
-use Rattle.std.proofs.Common.{◌≡◌, ℕ, ◌+◌, ◌*◌, ◌<◌, ◌≤◌, ◌^◌, inl, inr, List, [], ◌∷◌, ◌++◌, length, map, All, Option, Some, None, IfSome, refl, ap, ◌∙◌, decimal, codes, arith, length-append}
+use Rattle.std.proofs.Common.{◌≡◌, ℕ, ◌+◌, ◌*◌, ◌≤◌, inl, List, [], ◌∷◌, ◌++◌, length, map, All, Option, Some, None, IfSome, refl, decimal, arith, length-append}
 use Rattle.std.specs.List.{AllByRecursion as ByRecursion}
 use Rattle.std.proofs.lemmas.Fmt.{length-decimal-le}
 use Rattle.std.proofs.lemmas.List.Elements.{All-nil, All-cons, All-append, recursion_from_All}
-use Rattle.rep_fields.specs.Calendar.{day_text}
 use Rattle.rep_fields.specs.Digits.{numeral}
-use Rattle.rep_fields.specs.Identity.{cpf_text, bar}
+use Rattle.rep_fields.specs.Identity.{bar}
 use Rattle.rep_fields.specs.Latin.{IsLatin}
 use Rattle.rep_fields.specs.Moment.{Moment, hours_text, moment_text}
 use Rattle.rep_fields.specs.declared.employer.EmployerId.{EmployerId}

@@ -1,13 +1,12 @@
 -- The texts of a line's parts, but its free texts: printable characters without bars.
-use Rattle.std.proofs.Common.{◌≡◌, ◌≢◌, ℕ, suc, ◌+◌, ◌*◌, ◌/◌, ◌%◌, ◌<◌, ◌≤◌, ◌^◌, ◌⊎◌, inl, inr, List, [], ◌∷◌, ◌++◌, map, All, Option, Some, None, IfSome, decimal, codes, arith, ℤ, pos, negsuc}
+use Rattle.std.proofs.Common.{ℕ, suc, ◌+◌, ◌/◌, ◌%◌, ◌<◌, ◌≤◌, ◌^◌, inl, List, [], ◌∷◌, ◌++◌, map, All, Option, Some, None, IfSome, decimal, codes, arith, ℤ, pos, negsuc}
 use Rattle.std.specs.List.{concat, AllByRecursion as ByRecursion}
 use Rattle.std.proofs.lemmas.Fmt.{decimal_by_steps}
-use Rattle.std.proofs.lemmas.List.Elements.{All-nil, All-cons, All-push, All-append, recursion_from_All}
+use Rattle.std.proofs.lemmas.List.Elements.{All-nil, All-cons, All-append, recursion_from_All}
 use Rattle.rep_fields.specs.Calendar.{day_text, date_of}
-use Rattle.rep_fields.specs.Digits.{numeral, IsDigitByte}
+use Rattle.rep_fields.specs.Digits.{numeral}
 use Rattle.rep_fields.specs.Employer.{kind_byte}
-use Rattle.rep_fields.specs.Identity.{IsRepByte, IsRepNumber, bar}
-use Rattle.rep_fields.specs.Latin.{IsLatin}
+use Rattle.rep_fields.specs.Identity.{IsRepByte, IsRepNumber}
 use Rattle.rep_fields.specs.Moment.{Moment, hours_text, moment_text, offset_text, local_text}
 use Rattle.rep_fields.specs.declared.employer.EmployerId.{EmployerId}
 use Rattle.rep_fields.specs.declared.employer.EmployerId.TheVariants.{Cnpj, Person}

@@ -1,25 +1,17 @@
 -- What is written for a line is on the grammar, with the line's values.
-use Rattle.std.proofs.Common.{◌≡◌, ◌≢◌, ℕ, suc, ◌+◌, ◌-◌, ◌*◌, ◌/◌, ◌%◌, ◌<◌, ◌≤◌, ◌^◌, ◌⊎◌, inl, inr, List, [], ◌∷◌, ◌++◌, length, get_or, map, All, Bool, true, false, Option, Some, None, IfSome, refl, sym, ap, ◌∙◌, subst, decimal, codes, arith, append-nil, ℤ, pos, negsuc}
-use Rattle.std.specs.List.{concat, AllByRecursion as ByRecursion}
-use Rattle.std.proofs.lemmas.List.Elements.{recursion_from_All}
+use Rattle.std.proofs.Common.{◌≡◌, ◌≢◌, ℕ, suc, ◌+◌, ◌-◌, ◌*◌, ◌/◌, ◌%◌, ◌<◌, ◌≤◌, ◌^◌, inl, inr, List, [], ◌∷◌, ◌++◌, length, get_or, map, false, Option, Some, None, IfSome, refl, sym, ap, ◌∙◌, subst, decimal, arith, append-nil}
 use Rattle.std.proofs.lemmas.Fmt.{decimal_by_steps, length-decimal-le, decimal_nonempty}
 use Rattle.std.proofs.lemmas.List.{get_or-map, length-map, length_push}
 use Rattle.std.proofs.lemmas.Grind.{pow_more}
-use Rattle.rep_fields.specs.Calendar.{day_text, date_of}
-use Rattle.rep_fields.specs.Digits.{digits, numeral, FitsDigits}
-use Rattle.rep_fields.specs.Employer.{IsEmployerId, kind_byte}
-use Rattle.rep_fields.specs.Identity.{IsRepNumber, cpf_text, bar}
+use Rattle.rep_fields.specs.Digits.{numeral}
+use Rattle.rep_fields.specs.Identity.{bar}
 use Rattle.rep_fields.specs.Latin.{IsFilled}
-use Rattle.rep_fields.specs.Moment.{Moment, IsMoment, hours_text, moment_text, offset_text, local_text}
-use Rattle.rep_fields.specs.declared.employer.EmployerId.{EmployerId}
-use Rattle.rep_fields.specs.declared.employer.EmployerId.TheVariants.{Cnpj, Person}
+use Rattle.rep_fields.specs.Moment.{Moment, IsMoment, hours_text, moment_text}
 use Rattle.rep_fields.proofs.Numerals.{numeral_more, numeral-none}
 use Rattle.aej_records.specs.Fields.{fields_of, field_at}
-use Rattle.aej_records.specs.Grammar.{IsNumeral, IsNumeralText, IsIdText, IsPairText, IsStampText, IsOptionalText, IsOwnerText, AreWritten, Says, ReadsAs}
-use Rattle.aej_records.specs.Line.{type_of, IsBetween, IsMarkLetter, IsSourceLetter, IsInRange, HasNoBars, IsReadable}
-use Rattle.aej_records.specs.Text.{type_text, owner_text, optional_text, fields_text, behind_bars, line_text}
-use Rattle.aej_records.specs.declared.kind.LineType.{LineType}
-use Rattle.aej_records.specs.declared.kind.LineType.TheVariants as type
+use Rattle.aej_records.specs.Grammar.{IsNumeralText, IsIdText, IsPairText, IsStampText, IsOptionalText, AreWritten, Says, ReadsAs}
+use Rattle.aej_records.specs.Line.{type_of, IsBetween, IsInRange, IsReadable}
+use Rattle.aej_records.specs.Text.{type_text, optional_text, fields_text, line_text}
 use Rattle.aej_records.specs.declared.line.AejLine.{AejLine}
 use Rattle.aej_records.specs.declared.line.AejLine.TheVariants.{Head, Rep, Link, Schedule, Mark, Registration, Absence, Program, Counts}
 use Rattle.aej_records.proofs.Bars.{fields_of-behind_bars}

@@ -1,6 +1,6 @@
 -- What the reader of a line answers, from what it answers of the line's first fields.
 use Rattle.std.proofs.Common.{◌≡◌, ℕ, List, take, Result, Ok, Err, IfOk, IfErr, sym, ap, ◌∙◌, subst}
-use Rattle.aej_records.specs.Fields.{fields_of, field_at}
+use Rattle.aej_records.specs.Fields.{fields_of}
 use Rattle.aej_records.specs.Grammar.{IsBadAmong, IsFirstBad, Says, ReadsAs}
 use Rattle.aej_records.specs.Line.{type_of, HasNoBars, IsReadable}
 use Rattle.aej_records.specs.Reading.{IsSaidBy}

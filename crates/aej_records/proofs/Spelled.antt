@@ -1,10 +1,10 @@
 -- What a reader of a field tells of the field: it is of its kind, or it isn't.
 use Rattle.std.proofs.Common.{◌≡◌, ◌≢◌, ◌⊎◌, inl, inr, ℕ, ◌+◌, List, [], Bor, Option, Some, None, MatchOption, Result, Ok, Err, IfErr, IsErrAnd, refl, sym, ◌∙◌, subst}
-use Rattle.rep_fields.specs.Employer.{IsEmployerId, kind_byte}
+use Rattle.rep_fields.specs.Employer.{kind_byte}
 use Rattle.rep_fields.specs.declared.employer.EmployerId.{EmployerId}
 use Rattle.rep_fields.specs.declared.employer.EmployerId.TheVariants.{Cnpj, Person}
 use Rattle.aej_records.specs.Fields.{field_at}
-use Rattle.aej_records.specs.Grammar.{IsSpelled, IsField, IsOwnerKind, IsOwnerText, owner_kind_field, owner_field}
+use Rattle.aej_records.specs.Grammar.{IsSpelled, IsField, IsOwnerKind, owner_kind_field, owner_field}
 use Rattle.aej_records.specs.Reading.{IsOwnerAt}
 
 -- a reader that was given the field made this value of it

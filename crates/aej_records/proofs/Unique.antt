@@ -1,13 +1,12 @@
 -- A field says one value at most, and a line's fields say one line.
-use Rattle.std.proofs.Common.{◌≡◌, ◌≢◌, ℕ, suc, ◌+◌, ◌-◌, ◌<◌, ◌≤◌, ◌^◌, ◌⊎◌, inl, inr, List, [], ◌∷◌, length, get_or, drop, All, Bool, true, false, Option, Some, None, IfSome, EachIndex, slice_index, refl, sym, ap, ◌∙◌, subst, decimal, codes, arith, ℤ, pos, negsuc}
+use Rattle.std.proofs.Common.{◌≡◌, ◌≢◌, ℕ, suc, ◌+◌, ◌-◌, ◌≤◌, inl, inr, List, [], ◌∷◌, length, get_or, drop, All, Bool, true, false, Option, Some, None, IfSome, slice_index, refl, sym, ap, ◌∙◌, decimal, codes, arith, ℤ, pos, negsuc}
 use Rattle.std.proofs.lemmas.Bool.{cases_lt}
 use Rattle.std.proofs.lemmas.Fmt.{decimal_injective, decimal_nonempty}
 use Rattle.std.proofs.lemmas.List.{ext_get_or, get_or_past}
-use Rattle.rep_fields.specs.Digits.{digits, numeral}
-use Rattle.rep_fields.specs.Employer.{IsEmployerId, kind_byte}
-use Rattle.rep_fields.specs.Identity.{IsCpf, cpf_text}
+use Rattle.rep_fields.specs.Digits.{digits}
+use Rattle.rep_fields.specs.Employer.{IsEmployerId}
 use Rattle.rep_fields.specs.Latin.{IsText, IsFilled}
-use Rattle.rep_fields.specs.Moment.{Moment, IsMoment, IsOffset, IsMinuteOfDay, hours_text, offset_text, loose_offset_text}
+use Rattle.rep_fields.specs.Moment.{Moment, IsMoment, IsOffset, hours_text, offset_text, loose_offset_text}
 use Rattle.rep_fields.specs.declared.employer.EmployerId.{EmployerId}
 use Rattle.rep_fields.specs.declared.employer.EmployerId.TheVariants.{Cnpj, Person}
 use Rattle.rep_fields.proofs.Ids.{cpf_text-injective, cnpj_text-injective}
@@ -15,8 +14,8 @@ use Rattle.rep_fields.proofs.StampTexts.{lenient_parts, local_text-injective, of
 use Rattle.rep_fields.proofs.Texts.{IsText-unique}
 use Rattle.rep_fields.proofs.TimeTexts.{hours_parts, hours_text-injective}
 use Rattle.aej_records.specs.Fields.{field_at}
-use Rattle.aej_records.specs.Grammar.{IsIdText, IsPairText, IsNumeralText, IsStampText, IsOwnerText, IsOptionalText, AreWritten, Says, IsNumeral}
-use Rattle.aej_records.specs.Line.{type_of, IsBetween, IsId, IsPair, IsCount, IsName, IsInRange}
+use Rattle.aej_records.specs.Grammar.{IsIdText, IsPairText, IsNumeralText, IsStampText, IsOwnerText, IsOptionalText, AreWritten, Says}
+use Rattle.aej_records.specs.Line.{type_of, IsBetween, IsId, IsPair, IsCount, IsInRange}
 use Rattle.aej_records.specs.Text.{type_text}
 use Rattle.aej_records.specs.Times.{IsTimes}
 use Rattle.aej_records.specs.declared.kind.LineType.{LineType}

@@ -1,17 +1,10 @@
 -- Laws of what one field says: a field says one value at most.
-use Rattle.std.proofs.Common.{◌≡◌, ◌≢◌, ℕ, ◌<◌, ◌≤◌, ◌^◌, ◌⊎◌, inl, inr, List, [], ◌∷◌, length, get_or, Bool, Option, Some, None, IsSome, refl, sym, ap, ◌∙◌, subst, decimal, arith}
-use Rattle.std.proofs.lemmas.Fmt.{decimal_injective}
+use Rattle.std.proofs.Common.{◌≡◌, ℕ, ◌<◌, ◌≤◌, List, length, Option, Some, None, IsSome, refl, sym, ap, ◌∙◌, subst, arith}
 use Rattle.rep_fields.specs.Decoding.{Decodes, DecodesBy}
 use Rattle.rep_fields.specs.Digits.{numeral, FitsDigits, IsDigitCount}
-use Rattle.rep_fields.specs.Employer.{IsEmployerId}
-use Rattle.rep_fields.specs.Identity.{IsCpf, cpf_text}
-use Rattle.rep_fields.specs.Latin.{IsText, IsFilled}
-use Rattle.rep_fields.specs.declared.employer.EmployerId.{EmployerId}
-use Rattle.rep_fields.specs.declared.employer.EmployerId.TheVariants.{Cnpj, Person}
 use Rattle.rep_fields.proofs.Numerals.{length-numeral, numeral-injective}
 use Rattle.rep_fields.proofs.Ids.{FitsDigits-wider}
-use Rattle.rep_fields.proofs.Texts.{IsFilled-unique}
-use Rattle.aej_records.specs.Grammar.{IsNumeral, IsNumeralText, IsOwnerText, IsOptionalText}
+use Rattle.aej_records.specs.Grammar.{IsNumeral, IsNumeralText}
 
 -- a number has as many digits as its field
 pub width_of-numeral : (most n : ℕ) (text : List ℕ) (width : ℕ) → IsNumeral most n text width → length text ≡ width

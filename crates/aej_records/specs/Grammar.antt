@@ -4,7 +4,7 @@
 --   the number of an employment, a recorder or a pair may have zeros in front,
 --   a stamp may have seconds from 00 to 59 and the offset `-0000`,
 --   a text may have spaces behind it.
-use Rattle.std.specs.Prelude.{◌≡◌, ◌≢◌, ℕ, zero, suc, ◌+◌, ◌-◌, ◌*◌, ◌/◌, ◌≤◌, ◌⊎◌, Bool, min, max, List, [], ◌∷◌, length, replicate, slice_index, EachIndex, codes, decimal, Option, Some, None}
+use Rattle.std.specs.Prelude.{◌≡◌, ◌≢◌, ℕ, ◌+◌, ◌-◌, ◌*◌, ◌/◌, ◌≤◌, ◌⊎◌, Bool, min, max, List, [], ◌∷◌, length, replicate, slice_index, EachIndex, codes, decimal, Option, Some, None}
 use Rattle.rep_fields.specs.Calendar.{IsDay, day_text}
 use Rattle.rep_fields.specs.Digits.{numeral, FitsDigits}
 use Rattle.rep_fields.specs.Employer.{IsEmployerId, kind_byte}
@@ -13,7 +13,7 @@ use Rattle.rep_fields.specs.Latin.{IsText, IsFilled}
 use Rattle.rep_fields.specs.Moment.{Moment, IsMoment, IsMinuteOfDay, hours_text, IsLenientlyWritten}
 use Rattle.rep_fields.specs.declared.employer.EmployerId.{EmployerId}
 use Rattle.aej_records.specs.Fields.{fields_of, field_at}
-use Rattle.aej_records.specs.Line.{type_of, IsBetween, IsId, IsPair, IsMarkLetter, IsSourceLetter, IsName, IsWorks, IsInRange, IsReadable}
+use Rattle.aej_records.specs.Line.{type_of, IsBetween, IsId, IsPair, IsMarkLetter, IsSourceLetter, IsName, IsWorks, IsReadable}
 use Rattle.aej_records.specs.Text.{type_text, owner_text}
 use Rattle.aej_records.specs.declared.kind.LineType.{LineType}
 use Rattle.aej_records.specs.declared.kind.LineType.TheVariants as type

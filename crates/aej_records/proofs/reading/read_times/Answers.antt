@@ -1,4 +1,4 @@
-use Rattle.std.proofs.Common.{◌≡◌, ◌≤◌, ◌*◌, ℕ, length, replicate, slice_index, take, sym, ◌∙◌, ap, subst, arith, rules, length-take-le}
+use Rattle.std.proofs.Common.{◌≡◌, ◌≤◌, ◌*◌, length, replicate, slice_index, take, ◌∙◌, ap, subst, arith, length-take-le}
 use Rattle.rep_fields.specs.Moment.{IsMinuteOfDay}
 use Rattle.aej_records.specs.Times.{IsTimes}
 use Rattle.aej_records.specs.Grammar.{IsFirstOff, pairs_in, time_field}

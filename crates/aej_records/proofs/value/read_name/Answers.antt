@@ -1,4 +1,4 @@
-use Rattle.std.proofs.Common.{◌≡◌, refl, ◌∙◌}
+use Rattle.std.proofs.Common.{◌≡◌, ◌∙◌}
 use Rattle.rep_fields.proofs.Texts.{IsText-unique}
 use Rattle.aej_records.proofs.value.read_name.Goals as goal
 

@@ -1,4 +1,4 @@
-use Rattle.std.proofs.Common.{◌≡◌, List, ℕ, sym, ◌∙◌, subst}
+use Rattle.std.proofs.Common.{◌≡◌, sym, ◌∙◌, subst}
 use Rattle.aej_records.specs.Grammar.{ReadsAs}
 use Rattle.aej_records.specs.Text.{line_text}
 use Rattle.aej_records.proofs.Printed.{reads_as-line_text}
