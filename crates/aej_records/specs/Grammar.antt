@@ -1,5 +1,5 @@
--- The reading grammar of an AEJ's lines. What is written for a line is on it, and beside that, by this project's own
--- leniency:
+-- The reading grammar of an AEJ's lines. What is written for a line whose texts have no bar and are empty only where
+-- they may be is on it, and beside that, by this project's own leniency:
 --   separators before empty fields at the end may be missing,
 --   the number of an employment, a recorder or a pair may have zeros in front,
 --   a stamp may have seconds from 00 to 59 and the offset `-0000`,

@@ -554,59 +554,70 @@ fn trailer_has_eight_counts(rt: HostRuntime) {
     check_table(&rt, &table);
 }
 
-/// A text of so many bytes in each field of a text: one byte fewer than none too few, the most, and one too many.
-#[test]
-fn texts_have_their_lengths(rt: HostRuntime) {
-    let employer: (&[u8], &[u8]) = (
-        b"01|1|11222333000181|||",
-        b"|2024-03-04|2024-03-04|2024-03-06T09:00:00-0300|001",
-    );
-    let worker: (&[u8], &[u8]) = (b"03|1|11144477735|", b"");
-    let code: (&[u8], &[u8]) = (b"04|", b"|420|2200|0200");
-    let schedule: (&[u8], &[u8]) = (b"05|1|2024-03-04T22:00:00-0300|1|E|001|O|", b"|X");
-    let reason: (&[u8], &[u8]) = (b"05|1|2024-03-04T22:00:00-0300||S|001|I||", b"");
-    let registration: (&[u8], &[u8]) = (b"06|1|", b"");
-    let program: (&[u8], &[u8]) = (b"08|", b"|1.0|1|11222333000181|ACME SOFT|dev@acme.example");
-    let version: (&[u8], &[u8]) = (b"08|T|", b"|1|11222333000181|ACME SOFT|dev@acme.example");
-    let developer: (&[u8], &[u8]) = (b"08|T|1.0|1|11222333000181|", b"|dev@acme.example");
-    let email: (&[u8], &[u8]) = (b"08|T|1.0|1|11222333000181|ACME SOFT|", b"");
-    let cases = [
-        (employer, 6, false, 150),
-        (worker, 4, false, 150),
-        (code, 2, false, 30),
-        (schedule, 8, true, 30),
-        (reason, 9, true, 150),
-        (registration, 3, false, 30),
-        (program, 2, false, 150),
-        (version, 3, false, 8),
-        (developer, 6, false, 150),
-        (email, 7, false, 50),
+// Each text that may stand between the two parts of a line has 1 to `most` printable bytes, or none where it may be empty.
+fn check_text(
+    rt: &impl Abort,
+    number: u8,
+    most: usize,
+    empty: Option<u8>,
+    front: &[u8],
+    back: &[u8],
+) {
+    assert!(rt; most <= 150);
+    let bad = Some(number);
+    let table = [
+        (b'N', 0, empty),
+        (b'N', 1, None),
+        (b'N', most, None),
+        (b'N', most + 1, bad),
+        (b' ', 1, empty),
+        (b' ', most + 1, empty),
+        (0x1F, 1, bad),
+        (0x7E, 1, None),
+        (0x7F, 1, bad),
+        (0x9F, 1, bad),
+        (0xA0, 1, None),
+        (0xE7, most, None),
+        (b'\n', 1, bad),
     ];
-    for ((front, back), number, may_be_empty, most) in cases {
-        let none = if may_be_empty { None } else { Some(number) };
-        for (byte, count, field) in [
-            (b'N', 0, none),
-            (b'N', 1, None),
-            (b'N', most, None),
-            (b'N', most + 1, Some(number)),
-            (b' ', 1, none),
-            (b' ', most + 1, none),
-            (0x1F, 1, Some(number)),
-            (0x7E, 1, None),
-            (0x7F, 1, Some(number)),
-            (0x9F, 1, Some(number)),
-            (0xA0, 1, None),
-            (0xE7, most, None),
-            (b'\n', 1, Some(number)),
-        ] {
-            let line = line_with(&rt, front, byte, count, back);
-            assert!(rt;
-                bad_field(line.bytes()) == field,
-                "at {}",
-                line.bytes().escape_ascii()
-            );
-        }
+    for (byte, count, field) in table {
+        let line = line_with(rt, front, byte, count, back);
+        assert!(rt;
+            bad_field(line.bytes()) == field,
+            "at {}",
+            line.bytes().escape_ascii()
+        );
     }
+}
+
+#[test]
+fn texts_of_head_and_employment_have_their_lengths(rt: HostRuntime) {
+    let front: &[u8] = b"01|1|11222333000181|||";
+    let back: &[u8] = b"|2024-03-04|2024-03-04|2024-03-06T09:00:00-0300|001";
+    check_text(&rt, 6, 150, Some(6), front, back);
+    check_text(&rt, 4, 150, Some(4), b"03|1|11144477735|", b"");
+}
+
+#[test]
+fn texts_of_schedule_mark_and_registration_have_their_lengths(rt: HostRuntime) {
+    check_text(&rt, 2, 30, Some(2), b"04|", b"|420|2200|0200");
+    let code: &[u8] = b"05|1|2024-03-04T22:00:00-0300|1|E|001|O|";
+    check_text(&rt, 8, 30, None, code, b"|X");
+    let reason: &[u8] = b"05|1|2024-03-04T22:00:00-0300||S|001|I||";
+    check_text(&rt, 9, 150, None, reason, b"");
+    check_text(&rt, 3, 30, Some(3), b"06|1|", b"");
+}
+
+#[test]
+fn texts_of_program_have_their_lengths(rt: HostRuntime) {
+    let behind: &[u8] = b"|1.0|1|11222333000181|ACME SOFT|dev@acme.example";
+    check_text(&rt, 2, 150, Some(2), b"08|", behind);
+    let behind: &[u8] = b"|1|11222333000181|ACME SOFT|dev@acme.example";
+    check_text(&rt, 3, 8, Some(3), b"08|T|", behind);
+    let front: &[u8] = b"08|T|1.0|1|11222333000181|";
+    check_text(&rt, 6, 150, Some(6), front, b"|dev@acme.example");
+    let front: &[u8] = b"08|T|1.0|1|11222333000181|ACME SOFT|";
+    check_text(&rt, 7, 50, Some(7), front, b"");
 }
 
 /// The grammar bounds no line's length: spaces behind a text count for nothing, also where the line has 512 bytes and

@@ -1,8 +1,9 @@
 //! The lines of an AEJ, the electronic file of working days that a treatment program hands to the inspection: Portaria
 //! MTP 671/2021, annex VI (version 001).
 //!
-//! A line is an [`AejLine`]; [`print`] writes it, and [`read`] reads it, and other spellings of the same values too. No
-//! function here takes memory, and no line has its end, CR LF, here.
+//! A line is an [`AejLine`]. [`print`] writes it, and [`read`] reads what is written for a line whose texts have no bar
+//! and are empty only where they may be, and other spellings of its values too. No function here takes memory, and no
+//! line has its end, CR LF, here.
 //!
 //! ```rust
 //! let text = aej_records::print(&line);

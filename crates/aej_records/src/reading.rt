@@ -28,7 +28,8 @@ const COUNTED_TYPES: usize = 8;
 // The most pairs of entry and exit of a schedule.
 const MOST_PAIRS: usize = 10;
 
-/// Reads a line of an AEJ, without its end: the lines that `print` gives, and other spellings of their values.
+/// Reads a line of an AEJ, without its end: what `print` writes for a line whose texts have no bar and are empty only
+/// where they may be, and other spellings of its values.
 ///
 /// Separators before empty fields at the end may be missing. The number of an employment, a recorder or a pair may have
 /// zeros in front. A stamp may have seconds from 00 to 59, which are dropped, and the offset `-0000`. A text is taken
