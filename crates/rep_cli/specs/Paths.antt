@@ -5,11 +5,3 @@ use Rattle.std.specs.Prelude.{◌≡◌, ℕ, List, [], ◌∷◌, map, get_or, 
 abbrev pub word_at : List (List ℕ) → ℕ → List ℕ
 word_at words place = get_or words place []
 
--- these are the words at these places
-abbrev pub AreWordsAt : List (List ℕ) → List ℕ → List (List ℕ) → Type 0
-AreWordsAt words places paths = paths ≡ map (word_at words) places
-
--- where bytes are written to: standard output, or the file at a path
-pub data Target : Type 0 where
-  Standard : Target
-  FileAt : (path : List ℕ) → Target

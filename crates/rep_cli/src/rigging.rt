@@ -1,6 +1,7 @@
 ghost use Rattle.std.specs.Prelude.{◌≡◌, ◌<◌, [], None, All, map, string_bytes, length, is_some, IfOk};
 ghost use Rattle.rep_top.specs.Words.{IsOnGrammar};
 ghost use Rattle.rep_top.specs.Rigged.{Rigged};
+ghost use Rattle.rep_cli.specs.Paths.{word_at};
 
 use crate::file_source::FileSource;
 use crate::output_sink::OutputSink;
@@ -79,7 +80,8 @@ fn sources<'a, R: Files>(
     places: &[u32],
 ) -> Result<Vec<FileSource<'a, R>>, OutOfMemory>
     requires named { All (λ place. place < length words.now) places.now }
-    ensures count { IfOk result (λ sources. length sources.items ≡ length places.now) }
+    ensures paths { IfOk result (λ sources. map (λ s. s.path.now) sources.items
+        ≡ map (word_at (map string_bytes words.now)) places.now) }
 {
     let mut sources = Vec::new(alloc);
     for place in places {
@@ -96,7 +98,8 @@ fn files<'a, R: Files + Print>(
     places: &[u32],
 ) -> Result<Vec<OutputSink<'a, R>>, OutOfMemory>
     requires named { All (λ place. place < length words.now) places.now }
-    ensures count { IfOk result (λ files. length files.items ≡ length places.now) }
+    ensures paths { IfOk result (λ files. map (λ s. s.path) files.items
+        ≡ map (λ place. Some (word_at (map string_bytes words.now) place)) places.now) }
 {
     let mut files = Vec::new(alloc);
     for place in places {

@@ -6,7 +6,7 @@ ghost use Rattle.rep_io.specs.Streams.{IsReading};
 ghost use Rattle.rep_top.specs.Rigged.{Rigged};
 
 use crate::{Outcome, Rig, top};
-use rep_io::{MemClock, MemSink, MemSource, Source};
+use rep_io::{MemClock, MemSink, MemSource};
 use std::alloc::{AllocError, Global};
 use std::test::Fail;
 
@@ -75,15 +75,17 @@ pub(crate) fn source_of(
     Ok(MemSource::new(all, fails.to_vec(alloc)?))
 }
 
-/// What a run over a source leaves: its status, the file, and the output.
-pub(crate) fn print<S: Source + Drop>(
+pub(crate) type MemOutcome = Outcome<MemSource, MemSink, MemClock>;
+
+/// What words and a lane leave: the status, the file, and the output.
+pub(crate) fn run(
     alloc: Global,
-    source: S,
-    zone: &str,
+    words: &[&str],
+    source: MemSource,
     room: u64,
     failing: &Failing,
-) -> Result<Outcome<S, MemSink, MemClock>, Fail> {
-    let words = words_of(alloc, &["print", "day.lane", "day.afd", zone])?;
+) -> Result<MemOutcome, Fail> {
+    let words = words_of(alloc, words)?;
     let file = MemSink::new(alloc, room, failing.file.to_vec(alloc)?)?;
     let out = MemSink::new(alloc, 4096, failing.out.to_vec(alloc)?)?;
     let clock = MemClock::new(READINGS.to_vec(alloc)?, failing.clock.to_vec(alloc)?);
@@ -96,17 +98,30 @@ pub(crate) fn print<S: Source + Drop>(
     Ok(top(alloc, &words, rig))
 }
 
-/// A run over the pieces of a lane, none of whose objects fails.
-pub(crate) fn print_lane(
+/// What `print` leaves.
+pub(crate) fn print(
     alloc: Global,
-    pieces: &[&[u8]],
-) -> Result<Outcome<MemSource, MemSink, MemClock>, Fail> {
+    source: MemSource,
+    room: u64,
+    failing: &Failing,
+) -> Result<MemOutcome, Fail> {
+    run(
+        alloc,
+        &["print", "day.lane", "day.afd", "-0300"],
+        source,
+        room,
+        failing,
+    )
+}
+
+/// A run over the pieces of a lane, none of whose objects fails.
+pub(crate) fn print_lane(alloc: Global, pieces: &[&[u8]]) -> Result<MemOutcome, Fail> {
     let source = source_of(alloc, pieces, &[])?;
-    print(alloc, source, "-0300", 4096, &NOTHING_FAILS)
+    print(alloc, source, 4096, &NOTHING_FAILS)
 }
 
 /// The bytes of the file, which is empty where there is none.
-pub(crate) fn file_of<S>(outcome: &Outcome<S, MemSink, MemClock>) -> &[u8] {
+pub(crate) fn file_of(outcome: &MemOutcome) -> &[u8] {
     match outcome.rig.outs.first() {
         Some(file) => file.bytes(),
         None => b"",
@@ -116,7 +131,7 @@ pub(crate) fn file_of<S>(outcome: &Outcome<S, MemSink, MemClock>) -> &[u8] {
 /// A text with spaces behind it, up to a width.
 fn filled(alloc: Global, text: &[u8], width: usize) -> Result<Vec<u8>, AllocError> {
     let mut field = text.to_vec(alloc)?;
-    while field.len() < width {
+    for _ in text.len()..width {
         field.push(b' ')?;
     }
     Ok(field)

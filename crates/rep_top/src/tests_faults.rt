@@ -23,7 +23,7 @@ fn a_source_that_fails_ends_the_lane_there(rt: HostRuntime) -> Result<(), Fail> 
     // A piece a line: call 0 gives the head, call 5 the end.
     for call in 0..6 {
         let source = source_of(alloc, DAY, &[call])?;
-        let outcome = print(alloc, source, "-0300", 4096, &NOTHING_FAILS)?;
+        let outcome = print(alloc, source, 4096, &NOTHING_FAILS)?;
         let answered = call.saturating_sub(1) as usize;
         let mut behind = String::from_str(alloc, counts_of(answered))?;
         behind.push_str("FAULT|4\n")?;
@@ -35,13 +35,7 @@ fn a_source_that_fails_ends_the_lane_there(rt: HostRuntime) -> Result<(), Fail> 
         );
         assert!(rt; file_of(&outcome).is_empty(), "call {call}");
     }
-    let sound = print(
-        alloc,
-        source_of(alloc, DAY, &[6])?,
-        "-0300",
-        4096,
-        &NOTHING_FAILS,
-    )?;
+    let sound = print(alloc, source_of(alloc, DAY, &[6])?, 4096, &NOTHING_FAILS)?;
     assert_eq!(rt; sound.status, 0, "there is no call 6");
     Ok(())
 }
@@ -54,7 +48,7 @@ fn a_clock_that_fails_leaves_the_line_and_the_afd_unwritten(rt: HostRuntime) -> 
             clock: &[call],
             ..NOTHING_FAILS
         };
-        let outcome = print(alloc, source_of(alloc, DAY, &[])?, "-0300", 4096, &failing)?;
+        let outcome = print(alloc, source_of(alloc, DAY, &[])?, 4096, &failing)?;
         let answered = call as usize;
         let mut behind = String::from_str(alloc, counts_of(answered))?;
         behind.push_str("FAULT|7\n")?;
@@ -70,7 +64,7 @@ fn a_clock_that_fails_leaves_the_line_and_the_afd_unwritten(rt: HostRuntime) -> 
         clock: &[5],
         ..NOTHING_FAILS
     };
-    let sound = print(alloc, source_of(alloc, DAY, &[])?, "-0300", 4096, &failing)?;
+    let sound = print(alloc, source_of(alloc, DAY, &[])?, 4096, &failing)?;
     assert_eq!(rt;
         sound.status,
         0,
@@ -94,7 +88,7 @@ fn a_reply_that_fails_is_told_behind_the_counts(rt: HostRuntime) -> Result<(), F
             out: &[*call],
             ..NOTHING_FAILS
         };
-        let outcome = print(alloc, source_of(alloc, DAY, &[])?, "-0300", 4096, &failing)?;
+        let outcome = print(alloc, source_of(alloc, DAY, &[])?, 4096, &failing)?;
         assert_eq!(rt; outcome.status, 5, "call {call}");
         assert_eq!(rt;
             outcome.rig.out.bytes(),
@@ -113,7 +107,7 @@ fn counts_that_fail_are_told_and_the_afd_stands(rt: HostRuntime) -> Result<(), F
         out: &[4],
         ..NOTHING_FAILS
     };
-    let outcome = print(alloc, source_of(alloc, DAY, &[])?, "-0300", 4096, &failing)?;
+    let outcome = print(alloc, source_of(alloc, DAY, &[])?, 4096, &failing)?;
     assert_eq!(rt; outcome.status, 5);
     assert_eq!(rt;
         outcome.rig.out.bytes(),
@@ -126,13 +120,7 @@ fn counts_that_fail_are_told_and_the_afd_stands(rt: HostRuntime) -> Result<(), F
 #[test]
 fn a_file_that_fails_has_a_front_of_the_afd(rt: HostRuntime) -> Result<(), Fail> {
     let alloc = rt.alloc();
-    let whole = print(
-        alloc,
-        source_of(alloc, DAY, &[])?,
-        "-0300",
-        4096,
-        &NOTHING_FAILS,
-    )?;
+    let whole = print(alloc, source_of(alloc, DAY, &[])?, 4096, &NOTHING_FAILS)?;
     // its room, and the call that fails
     let rows: &[(u64, &[u64])] = &[(4096, &[0]), (0, &[]), (1, &[]), (302, &[]), (1202, &[])];
     for (room, fails) in rows {
@@ -140,7 +128,7 @@ fn a_file_that_fails_has_a_front_of_the_afd(rt: HostRuntime) -> Result<(), Fail>
             file: *fails,
             ..NOTHING_FAILS
         };
-        let outcome = print(alloc, source_of(alloc, DAY, &[])?, "-0300", *room, &failing)?;
+        let outcome = print(alloc, source_of(alloc, DAY, &[])?, *room, &failing)?;
         let len = if fails.is_empty() { *room as usize } else { 0 };
         assert_eq!(rt; outcome.status, 5, "room {room}");
         assert_eq!(rt;
@@ -150,13 +138,7 @@ fn a_file_that_fails_has_a_front_of_the_afd(rt: HostRuntime) -> Result<(), Fail>
         );
         assert_eq!(rt; file_of(&outcome), &file_of(&whole)[..len], "room {room}");
     }
-    let enough = print(
-        alloc,
-        source_of(alloc, DAY, &[])?,
-        "-0300",
-        1203,
-        &NOTHING_FAILS,
-    )?;
+    let enough = print(alloc, source_of(alloc, DAY, &[])?, 1203, &NOTHING_FAILS)?;
     assert_eq!(rt; enough.status, 0);
     Ok(())
 }
@@ -172,13 +154,7 @@ fn a_last_line_that_fails_leaves_the_status(rt: HostRuntime) -> Result<(), Fail>
             out: &[*call],
             ..NOTHING_FAILS
         };
-        let outcome = print(
-            alloc,
-            source_of(alloc, refused, &[])?,
-            "-0300",
-            4096,
-            &failing,
-        )?;
+        let outcome = print(alloc, source_of(alloc, refused, &[])?, 4096, &failing)?;
         assert_eq!(rt; outcome.status, *status, "call {call}");
         assert_eq!(rt;
             outcome.rig.out.bytes(),

@@ -1,8 +1,8 @@
 //! Runs of `print` that end early by what they are given: the words, the lane's head, and each line behind it.
 
-use crate::tests::{NOTHING_FAILS, file_of, print, print_lane, said, words_of};
+use crate::tests::{NOTHING_FAILS, file_of, print_lane, run, said, source_of, words_of};
 use crate::{Rig, top};
-use rep_io::{Failed, LONGEST_TEXT, MemClock, MemSink, MemSource, Source};
+use rep_io::{Failed, LONGEST_TEXT, MemClock, MemSink, Source};
 use std::alloc::Global;
 use std::process::Abort;
 use std::test::Fail;
@@ -62,14 +62,8 @@ fn words_of_no_command_are_told_and_nothing_is_touched(rt: HostRuntime) -> Resul
         (&["print", "lane", "out", ""], "an empty offset"),
     ];
     for (words, message) in rows {
-        let words = words_of(alloc, *words)?;
-        let rig: Rig<MemSource, MemSink, MemClock> = Rig {
-            texts: Vec::new(alloc),
-            outs: Vec::new(alloc),
-            clock: None,
-            out: MemSink::new(alloc, 64, Vec::new(alloc))?,
-        };
-        let outcome = top(alloc, &words, rig);
+        let source = source_of(alloc, &[HEAD, EMPLOYER], &[])?;
+        let outcome = run(alloc, *words, source, 4096, &NOTHING_FAILS)?;
         assert_eq!(rt; outcome.status, 2, "{message}");
         assert_eq!(rt;
             outcome.rig.out.bytes(),
@@ -296,7 +290,7 @@ fn employer_of(alloc: Global, name: &[u8], len: usize) -> Result<Vec<u8>, std::a
         .to_vec(alloc)?;
     line.extend_from_slice(name)?;
     line.extend_from_slice(b"|RUA A 1")?;
-    while line.len() < len {
+    for _ in line.len()..len {
         line.push(b' ')?;
     }
     line.push(b'\n')?;
@@ -369,17 +363,23 @@ fn a_text_has_268_435_456_bytes_at_most(rt: HostRuntime) -> Result<(), Fail> {
     ];
     let alloc = rt.alloc();
     for (size, behind, status) in rows {
+        let words = words_of(alloc, &["print", "flood.lane", "flood.afd", "-0300"])?;
         let source = Flood {
             given: 0,
             size: *size,
         };
-        let outcome = print(alloc, source, "-0300", 4096, &NOTHING_FAILS)?;
+        let rig = Rig {
+            texts: vec![in alloc; source]?,
+            outs: vec![in alloc; MemSink::new(alloc, 4096, Vec::new(alloc))?]?,
+            clock: Some(MemClock::new([28_492_440].to_vec(alloc)?, Vec::new(alloc))),
+            out: MemSink::new(alloc, 4096, Vec::new(alloc))?,
+        };
+        let outcome = top(alloc, &words, rig);
         assert_eq!(rt; outcome.status, *status);
         assert_eq!(rt;
             outcome.rig.out.bytes(),
             said(alloc, 1, *behind)?.as_bytes()
         );
-        assert!(rt; file_of(&outcome).is_empty());
     }
     Ok(())
 }
