@@ -1,4 +1,4 @@
-ghost use Rattle.std.specs.Prelude.{◌≡◌, ◌<◌, ◌≤◌, None, Some, IfOk, length};
+ghost use Rattle.std.specs.Prelude.{◌≡◌, ◌<◌, ◌≤◌, None, Some, IfOk, length, option_copied};
 
 use rep_io::{Failed, Sink};
 use std::fs::File;
@@ -18,7 +18,7 @@ pub struct OutputSink<'a, R: Files + Print> {
 impl<'a, R: Files + Print> OutputSink<'a, R> {
     /// Standard output.
     pub fn standard(rt: &'a R) -> Self
-        ensures path { result.path ≡ None }
+        ensures path { option_copied result.path ≡ None }
     {
         OutputSink {
             rt,
@@ -30,7 +30,7 @@ impl<'a, R: Files + Print> OutputSink<'a, R> {
 
     /// The file at a path. It stays as it is until the first call, which empties it, or makes it where it isn't there.
     pub fn file(rt: &'a R, path: &'a str) -> Self
-        ensures path { result.path ≡ Some path }
+        ensures path { option_copied result.path ≡ Some path.now }
     {
         OutputSink {
             rt,
