@@ -137,7 +137,10 @@ fn a_file_that_fails_has_a_front_of_the_afd(rt: HostRuntime) -> Result<(), Fail>
             "room {room}"
         );
         assert_eq!(rt; file_of(&outcome).len(), len, "room {room}");
-        assert!(rt; file_of(&whole).starts_with(file_of(&outcome)), "room {room}");
+        assert!(rt;
+            file_of(&whole).starts_with(file_of(&outcome)),
+            "room {room}"
+        );
     }
     let enough = print(alloc, source_of(alloc, DAY, &[])?, 1203, &NOTHING_FAILS)?;
     assert_eq!(rt; enough.status, 0);
