@@ -1,5 +1,6 @@
 -- a rig of one text, one file and a clock
-use Rattle.std.proofs.Common.{◌≡◌, ℕ, ℤ, Bool, List, [], ◌∷◌, length, length-map, map, get_or, Option, None, Some, is_some, true, Result, Ok, Err, IfOk, refl, sym, ap, ◌∙◌, arith}
+use Rattle.std.proofs.Common.{◌≡◌, ℕ, ℤ, Bool, List, [], ◌∷◌, length, map, get_or, Option, None, Some, is_some, true, Result, Ok, Err, IfOk, refl, sym, ap, ◌∙◌, arith}
+use Rattle.std.proofs.lemmas.List.{length-map}
 use Rattle.rep_top.specs.Words.{IsPrint}
 use Rattle.rep_cli.specs.Paths.{word_at}
 use Rattle.rep_top.specs.declared.rig.Rig.{Rig}
