@@ -3,6 +3,10 @@ pub mod CrcTable
 pub mod FieldNumbers
 pub mod Halves
 pub mod IdFields
+pub mod LooseApart
+pub mod LooseCuts
+pub mod LooseLines
+pub mod LooseTexts
 pub mod Printed
 pub mod RecordParts
 pub mod TypeFields
