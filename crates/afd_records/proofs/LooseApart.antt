@@ -25,12 +25,12 @@ use Rattle.afd_records.proofs.RecordParts.{layout_for}
 use Rattle.afd_records.proofs.TypeFields.{type_byte}
 
 -- two stamps whose texts are one
-same_stamps : (a b : Moment) (odd_a odd_b : Bool) (s t : List ℕ) → IsStampText a odd_a s → IsStampText b odd_b t → s ≡ t
+pub same_stamps : (a b : Moment) (odd_a odd_b : Bool) (s t : List ℕ) → IsStampText a odd_a s → IsStampText b odd_b t → s ≡ t
     → IsSameStamp a b odd_a odd_b
 same_stamps a b odd_a odd_b s t is_a is_b is =
     same_stamp a b odd_a odd_b t (subst (λ (text : List ℕ). IsStampText a odd_a text) is is_a) is_b
 
-same_cnos : (m n : ℕ) (s t : List ℕ) → FitsDigits 14 m → FitsDigits 14 n → IsCnoText m s → IsCnoText n t → s ≡ t → m ≡ n
+pub same_cnos : (m n : ℕ) (s t : List ℕ) → FitsDigits 14 m → FitsDigits 14 n → IsCnoText m s → IsCnoText n t → s ≡ t → m ≡ n
 same_cnos m n s t in_m in_n is_m is_n is = same_cno m n t in_m in_n (subst (IsCnoText m) is is_m) is_n
 
 -- two notes of a checksum, which are of one text

@@ -7,7 +7,7 @@ use Rattle.rep_fields.proofs.Layouts.{cuts, total}
 use Rattle.afd_records.specs.Checksum.{crc_text}
 use Rattle.afd_records.proofs.RecordParts.{concat-cuts_taken}
 
-not_flag : (ended : Bool) (P Q : Type 0) → (IsTrue ended ↔ P) → (P → Q) → (Q → P) → IsTrue (not ended) ↔ (Q → ⊥)
+pub not_flag : (ended : Bool) (P Q : Type 0) → (IsTrue ended ↔ P) → (P → Q) → (Q → P) → IsTrue (not ended) ↔ (Q → ⊥)
 not_flag true P Q is there back = (λ no. absurd (true≢false (sym no)), λ none. absurd (none (there (is.0 refl))))
 not_flag false P Q is there back = (λ _ q. true≢false (sym (is.1 (back q))), λ _. refl)
 

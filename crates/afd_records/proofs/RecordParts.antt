@@ -57,7 +57,7 @@ check_parts (Clocking marked cpf recorded collector offline) check = check ∷ [
 abbrev pub line_parts : ℕ → Body → List ℕ → List (List ℕ)
 line_parts nsr body check = payload_parts nsr body ++ check_parts body check
 
-payload_text-parts : (nsr : ℕ) (body : Body) → payload_text nsr body ≡ concat (payload_parts nsr body)
+pub payload_text-parts : (nsr : ℕ) (body : Body) → payload_text nsr body ≡ concat (payload_parts nsr body)
 unfolding payload_text
 payload_text-parts nsr (Employer at resp id cno name place) = refl
 payload_text-parts nsr (Adjust before after resp) = refl

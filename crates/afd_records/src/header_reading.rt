@@ -10,9 +10,9 @@ use crate::checksum::ends_in_checksum;
 use crate::error::{BadLine, Notes};
 use crate::fields::{is_employer_kind, read_id, read_text};
 use crate::header::{HEAD_LEN, Head};
-use crate::loose_fields::{read_loose_cno, read_stamp};
+use crate::loose_fields::{is_literal, read_loose_cno, read_stamp};
 use crate::reading::TYPE_AT;
-use rep_fields::{Day, EmployerId, RepNumber, Text};
+use rep_fields::{Day, EmployerId, RepNumber, Text, get_n};
 
 // The digit of the head's type.
 const HEAD_TYPE: u8 = b'1';
@@ -83,7 +83,7 @@ fn read_owner(line: &[u8]) -> Result<Owner, BadLine>
     ensures found { IfOk result (IsOwnerIn line.now) }
     ensures first { IfErr result (λ bad. IsFirstBadOfHead line.now bad.field) }
 {
-    if line[..9] != ZEROS[..] {
+    if !is_literal(&line[..9], ZEROS) {
         return Err(BadLine { field: 1 });
     }
     if !is_employer_kind(&line[10..11]) {
@@ -120,7 +120,7 @@ fn read_behind(line: &[u8], owner: &Owner) -> Result<ReadHead, BadLine>
     let Some(made) = read_stamp(&line[226..250]) else {
         return Err(BadLine { field: 10 });
     };
-    if line[250..253] != VERSION[..] {
+    if !is_literal(&line[250..253], VERSION) {
         return Err(BadLine { field: 11 });
     }
     let Some(dev_kind) = read_maker_kind(&line[253..254]) else {
@@ -158,11 +158,13 @@ fn read_maker_kind(field: &[u8]) -> Option<u8>
     requires { length field.now ≡ 1 }
     ensures { Decodes IsMakerKind (numeral 1) field.now result }
 {
-    match field {
-        b"1" => Some(1),
-        b"2" => Some(2),
-        _ => None,
+    let Some(kind) = get_n(field) else {
+        return None;
+    };
+    if kind != 1 && kind != 2 {
+        return None;
     }
+    Some(kind as u8)
 }
 
 // The maker's id in fourteen digits, or a blank field.
@@ -170,7 +172,7 @@ fn read_maker(field: &[u8]) -> Option<[u8; 14]>
     requires { length field.now ≡ 14 }
     ensures { Decodes IsMaker (λ maker. maker) field.now result }
 {
-    if !all_digits(field) && field != BLANK_MAKER.as_slice() {
+    if !all_digits(field) && !is_literal(field, BLANK_MAKER) {
         return None;
     }
     let mut maker = [0; 14];
@@ -184,7 +186,13 @@ fn all_digits(bytes: &[u8]) -> bool
 {
     let mut all = true;
     for byte in bytes {
-        all &= byte.is_ascii_digit();
+        all &= is_digit(*byte);
     }
     all
+}
+
+fn is_digit(byte: u8) -> bool
+    ensures { IsTrue result ↔ IsDigitByte byte }
+{
+    matches!(byte, b'0'..=b'9')
 }

@@ -18,6 +18,9 @@ mod fields;
 mod header;
 mod header_reading;
 mod lenient;
+mod lenient_laws;
+#[cfg(test)]
+mod lenient_tests;
 mod line;
 mod loose_fields;
 mod reading;
@@ -33,6 +36,7 @@ pub use error::{BadLine, Notes};
 pub use header::{HEAD_LEN, Head, print_head};
 pub use header_reading::{ReadHead, read_head};
 pub use lenient::read_loose;
+pub use lenient_laws::what_is_written_reads_leniently;
 pub use line::{
     ADJUST_LEN, AfdLine, CHECKSUM_LEN, CLOCKING_LEN, EMPLOYER_LEN, EVENT_LEN, HASH_LEN, WORKER_LEN,
 };

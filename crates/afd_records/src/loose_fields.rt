@@ -15,6 +15,13 @@ const BLANK: &[u8; 14] = b"              ";
 // The greatest code of an event of a recorder of any kind.
 const LAST_EVENT: u64 = 8;
 
+// Whether the field has these very characters.
+pub(crate) fn is_literal(field: &[u8], text: &[u8]) -> bool
+    ensures { IsTrue result ↔ (field.now ≡ text.now) }
+{
+    field == text
+}
+
 // A stamp that was read, and whether its text is another than the strict one.
 #[derive(Clone, Copy)]
 pub(crate) struct FoundStamp {
@@ -42,7 +49,7 @@ pub(crate) fn read_stamp_again(field: &[u8], read: &[u8], found: &FoundStamp) ->
     ensures { DecodesBy (λ found. IsMoment found.stamp) (λ found. IsStampText found.stamp found.odd)
         field.now result }
 {
-    if field == read {
+    if is_literal(field, read) {
         return Some(*found);
     }
     read_stamp(field)
@@ -53,7 +60,7 @@ pub(crate) fn read_loose_cno(field: &[u8]) -> Option<u64>
     requires { length field.now ≡ 14 }
     ensures { DecodesBy IsCno IsCnoText field.now result }
 {
-    if field == BLANK.as_slice() {
+    if is_literal(field, BLANK) {
         return Some(0);
     }
     get_n(field)

@@ -3,6 +3,7 @@ ghost use Rattle.rep_fields.specs.Decoding.{Decodes};
 ghost use Rattle.rep_fields.specs.Digits.{FitsDigits, numeral};
 ghost use Rattle.afd_records.specs.File.{trailer_text, HasTrailerText};
 
+use crate::loose_fields::is_literal;
 use crate::trailer::{TRAILER_LEN, Trailer};
 use rep_fields::get_n;
 
@@ -17,7 +18,7 @@ pub fn read_trailer(line: &[u8]) -> Option<Trailer>
     ensures { Decodes (λ trailer. HasTrailerText trailer.counts) (λ trailer. trailer_text trailer.counts)
         line.now result }
 {
-    if line.len() != TRAILER_LEN || line[..9] != NINES[..] || line[63] != TYPE {
+    if line.len() != TRAILER_LEN || !is_literal(&line[..9], NINES) || line[63] != TYPE {
         return None;
     }
     let Some(employers) = read_count(&line[9..18]) else {

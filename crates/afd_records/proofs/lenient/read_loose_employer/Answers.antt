@@ -28,22 +28,22 @@ returns-then-not-is_employer_kind-clause-first c =
 pub returns-in_default-read_id-clause-first : goal.returns-in_default-read_id-clause-first
 returns-in_default-read_id-clause-first c =
     let type = type_field employer_layout c.args.line.now 50 c.requires (omega arith) refl in
-    ((c.in-Some.nsr, c.in-Some.ensures), (type, ((c.in-Some-read_stamp.at.stamp, c.in-Some-read_stamp.at.odd, c.in-Some-read_stamp.ensures.1), ((c.in-Some-read_cpf.resp, c.in-Some-read_cpf.ensures), (c.is_employer_kind.ensures.0 c.if-not-is_employer_kind.false, no_id_field c.args.line.now (omega arith) c.in_default-read_id.ensures)))))
+    ((c.in-Some.nsr, c.in-Some.ensures), (type, ((c.in-Some-read_stamp.at.stamp, c.in-Some-read_stamp.at.odd, c.in-Some-read_stamp.ensures.1), ((c.in-Some-read_cpf.resp, c.in-Some-read_cpf.ensures), (c.is_employer_kind.ensures.0 c.if-not-is_employer_kind.false, no_id_field 48 c.args.line.now (omega arith) c.in_default-read_id.ensures)))))
 
 pub returns-in_default-read_loose_cno-clause-first : goal.returns-in_default-read_loose_cno-clause-first
 returns-in_default-read_loose_cno-clause-first c =
     let type = type_field employer_layout c.args.line.now 50 c.requires (omega arith) refl in
-    ((c.in-Some.nsr, c.in-Some.ensures), (type, ((c.in-Some-read_stamp.at.stamp, c.in-Some-read_stamp.at.odd, c.in-Some-read_stamp.ensures.1), ((c.in-Some-read_cpf.resp, c.in-Some-read_cpf.ensures), (c.is_employer_kind.ensures.0 c.if-not-is_employer_kind.false, (id_field c.args.line.now c.in-Some-read_id.id c.in-Some-read_id.ensures, λ spelled. c.in_default-read_loose_cno.ensures spelled.0 spelled.1.0 spelled.1.1))))))
+    ((c.in-Some.nsr, c.in-Some.ensures), (type, ((c.in-Some-read_stamp.at.stamp, c.in-Some-read_stamp.at.odd, c.in-Some-read_stamp.ensures.1), ((c.in-Some-read_cpf.resp, c.in-Some-read_cpf.ensures), (c.is_employer_kind.ensures.0 c.if-not-is_employer_kind.false, (id_field 48 c.args.line.now c.in-Some-read_id.id c.in-Some-read_id.ensures, λ spelled. c.in_default-read_loose_cno.ensures spelled.0 spelled.1.0 spelled.1.1))))))
 
 pub returns-in_default-read_text-clause-first : goal.returns-in_default-read_text-clause-first
 returns-in_default-read_text-clause-first c =
     let type = type_field employer_layout c.args.line.now 50 c.requires (omega arith) refl in
-    ((c.in-Some.nsr, c.in-Some.ensures), (type, ((c.in-Some-read_stamp.at.stamp, c.in-Some-read_stamp.at.odd, c.in-Some-read_stamp.ensures.1), ((c.in-Some-read_cpf.resp, c.in-Some-read_cpf.ensures), (c.is_employer_kind.ensures.0 c.if-not-is_employer_kind.false, (id_field c.args.line.now c.in-Some-read_id.id c.in-Some-read_id.ensures, ((c.in-Some-read_loose_cno.cno, c.in-Some-read_loose_cno.ensures), λ spelled. c.in_default-read_text.ensures spelled.0 spelled.1.0 spelled.1.1)))))))
+    ((c.in-Some.nsr, c.in-Some.ensures), (type, ((c.in-Some-read_stamp.at.stamp, c.in-Some-read_stamp.at.odd, c.in-Some-read_stamp.ensures.1), ((c.in-Some-read_cpf.resp, c.in-Some-read_cpf.ensures), (c.is_employer_kind.ensures.0 c.if-not-is_employer_kind.false, (id_field 48 c.args.line.now c.in-Some-read_id.id c.in-Some-read_id.ensures, ((c.in-Some-read_loose_cno.cno, c.in-Some-read_loose_cno.ensures), λ spelled. c.in_default-read_text.ensures spelled.0 spelled.1.0 spelled.1.1)))))))
 
 pub returns-in_default-read_text-2-clause-first : goal.returns-in_default-read_text-2-clause-first
 returns-in_default-read_text-2-clause-first c =
     let type = type_field employer_layout c.args.line.now 50 c.requires (omega arith) refl in
-    ((c.in-Some.nsr, c.in-Some.ensures), (type, ((c.in-Some-read_stamp.at.stamp, c.in-Some-read_stamp.at.odd, c.in-Some-read_stamp.ensures.1), ((c.in-Some-read_cpf.resp, c.in-Some-read_cpf.ensures), (c.is_employer_kind.ensures.0 c.if-not-is_employer_kind.false, (id_field c.args.line.now c.in-Some-read_id.id c.in-Some-read_id.ensures, ((c.in-Some-read_loose_cno.cno, c.in-Some-read_loose_cno.ensures), ((c.in-Some-read_text.name, c.in-Some-read_text.ensures), λ spelled. c.in_default-read_text-2.ensures spelled.0 spelled.1.0 spelled.1.1))))))))
+    ((c.in-Some.nsr, c.in-Some.ensures), (type, ((c.in-Some-read_stamp.at.stamp, c.in-Some-read_stamp.at.odd, c.in-Some-read_stamp.ensures.1), ((c.in-Some-read_cpf.resp, c.in-Some-read_cpf.ensures), (c.is_employer_kind.ensures.0 c.if-not-is_employer_kind.false, (id_field 48 c.args.line.now c.in-Some-read_id.id c.in-Some-read_id.ensures, ((c.in-Some-read_loose_cno.cno, c.in-Some-read_loose_cno.ensures), ((c.in-Some-read_text.name, c.in-Some-read_text.ensures), λ spelled. c.in_default-read_text-2.ensures spelled.0 spelled.1.0 spelled.1.1))))))))
 
 pub returns-clause-found : goal.returns-clause-found
 returns-clause-found c =
@@ -52,7 +52,7 @@ returns-clause-found c =
     let at = c.in-Some-read_stamp.at in
     let resp = c.in-Some-read_cpf in
     let id = c.in-Some-read_id.id in
-    let id_parts = id_cuts line (kind_byte id) (id_text id) c.in-Some-read_id.ensures.1 in
+    let id_parts = id_cuts 48 line (kind_byte id) (id_text id) c.in-Some-read_id.ensures.1 in
     let cno = c.in-Some-read_loose_cno in
     let name = c.in-Some-read_text in
     let place = c.in-Some-read_text-2 in
