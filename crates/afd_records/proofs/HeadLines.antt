@@ -1,7 +1,6 @@
 -- The head's line that a reader takes: its fields, that each is on its grammar, and that they tell the head.
-use Rattle.std.proofs.Common.{◌≡◌, ◌≢◌, ◌↔◌, ◌⊎◌, inl, inr, IsTrue, ℕ, zero, suc, ◌+◌, List, [], ◌∷◌, ◌++◌, All, length, slice_index, take, drop, map, Result, Ok, Err, refl, sym, ap, ◌∙◌, subst, arith}
+use Rattle.std.proofs.Common.{◌≡◌, ◌↔◌, inl, inr, IsTrue, ℕ, suc, List, [], ◌∷◌, ◌++◌, All, length, take, drop, Result, Ok, Err, refl, sym, ap, ◌∙◌, subst, arith}
 use Rattle.std.specs.Prelude.{Bool, codes, IfOk, IfErr}
-use Rattle.std.specs.List.{concat}
 use Rattle.std.proofs.Math.Seq.{take-add}
 use Rattle.rep_fields.specs.Digits.{numeral, FitsDigits, IsDigitByte}
 use Rattle.rep_fields.specs.Latin.{padded}
@@ -14,10 +13,9 @@ use Rattle.rep_fields.proofs.Layouts.{cuts, widths_of, total, parts_of_text, len
 use Rattle.rep_fields.proofs.Numerals.{length-numeral, numeral-injective}
 use Rattle.rep_fields.proofs.StampTexts.{length-day_text, day_text-injective}
 use Rattle.rep_fields.proofs.Texts.{length-padded}
-use Rattle.afd_records.specs.Checksum.{crc_text}
 use Rattle.afd_records.specs.HeadParts.{IsOwnerIn}
 use Rattle.afd_records.specs.Lenient.{IsStampText, IsCnoText, IsFirstBadBy}
-use Rattle.afd_records.specs.LenientHead.{HeadField, DayField, MakerKindField, MakerField, Literal, Shared, RepField, head_width, head_layout, IsHeadField, IsHeadLaidOut, IsFirstBadOfHead, IsMaker, IsMakerKind, IsLooseHead, HeadWording, worded_head, IsLooseHeadOf}
+use Rattle.afd_records.specs.LenientHead.{HeadField, DayField, MakerKindField, MakerField, Literal, Shared, head_width, head_layout, IsHeadField, IsHeadLaidOut, IsFirstBadOfHead, IsMaker, IsMakerKind, HeadWording, worded_head, IsLooseHeadOf}
 use Rattle.afd_records.specs.Fields.{StampField, TextField, ChecksumField}
 use Rattle.afd_records.specs.declared.error.BadLine.{BadLine}
 use Rattle.afd_records.specs.declared.error.Notes.{Notes}

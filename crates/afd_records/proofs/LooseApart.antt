@@ -1,6 +1,6 @@
 -- Two records with one line are one record, with one list of notes, also where the line is written leniently.
-use Rattle.std.proofs.Common.{◌≡◌, ◌≢◌, ◌↔◌, IsTrue, ℕ, List, [], ◌∷◌, ◌++◌, map, Option, Some, None, Result, Ok, Err, refl, sym, ap, ◌∙◌, subst, arith}
-use Rattle.std.specs.Prelude.{Bool, true, false, ◌||◌, IfOk, IfErr}
+use Rattle.std.proofs.Common.{◌≡◌, ◌≢◌, ◌↔◌, IsTrue, ℕ, List, [], ◌∷◌, map, Option, Some, None, Result, Ok, Err, refl, sym, ap, ◌∙◌, subst, arith}
+use Rattle.std.specs.Prelude.{Bool, ◌||◌, IfOk, IfErr}
 use Rattle.std.specs.List.{concat}
 use Rattle.rep_fields.specs.Digits.{numeral, FitsDigits}
 use Rattle.rep_fields.specs.Latin.{padded}

@@ -1,30 +1,24 @@
 -- The lines that a lenient reader takes: their fields, that each is on its grammar, and that they tell their values.
-use Rattle.std.proofs.Common.{◌≡◌, ◌≢◌, ◌↔◌, IsTrue, ℕ, zero, suc, ◌+◌, List, [], ◌∷◌, ◌++◌, length, slice_index, take, drop, map, Option, Some, None, Result, Ok, Err, refl, sym, ap, ◌∙◌, subst, arith}
-use Rattle.std.specs.Prelude.{Bool, true, false, ◌||◌, codes, sum_by, IfOk, IfErr}
-use Rattle.std.specs.List.{concat}
+use Rattle.std.proofs.Common.{◌≡◌, ℕ, zero, suc, ◌+◌, List, [], ◌∷◌, ◌++◌, length, slice_index, take, drop, map, Option, Some, None, refl, sym, ap, ◌∙◌, subst, arith}
+use Rattle.std.specs.Prelude.{Bool, codes, sum_by}
 use Rattle.std.proofs.Math.Seq.{take-add}
-use Rattle.rep_fields.specs.Digits.{numeral, FitsDigits}
+use Rattle.rep_fields.specs.Digits.{numeral}
 use Rattle.rep_fields.specs.Latin.{padded}
 use Rattle.rep_fields.specs.Moment.{Moment}
 use Rattle.rep_fields.specs.Employer.{kind_byte, id_text, id_number}
 use Rattle.rep_fields.proofs.Layouts.{cuts, widths_of, total, parts_of_text, length-concat, byte_of_part}
-use Rattle.rep_fields.proofs.Numerals.{length-numeral, numeral-injective}
+use Rattle.rep_fields.proofs.Numerals.{length-numeral}
 use Rattle.rep_fields.proofs.Texts.{length-padded}
-use Rattle.afd_records.specs.Checksum.{crc_text}
 use Rattle.afd_records.specs.Record.{op_text, offline_text}
 use Rattle.afd_records.specs.Line.{hash_bytes}
 use Rattle.afd_records.specs.Fields.{Layout, IsLaidOut, layout_of, width_of}
-use Rattle.afd_records.specs.Lenient.{IsStampText, IsCnoText, Wording, IsLooseBody, HasLooseHash, IsLooseHash, IsLooseEvent, IsWorded, IsNoted, worded_payload, worded_check, IsLooseLineOf, IsLooselyReadFrom, IsLooseField, IsFirstBadBy, IsFirstLooseBad}
-use Rattle.afd_records.specs.declared.error.BadLine.{BadLine}
+use Rattle.afd_records.specs.Lenient.{IsStampText, IsCnoText, Wording, IsLooseBody, HasLooseHash, IsLooseHash, IsWorded, worded_payload, worded_check, IsLooseLineOf, IsLooseField, IsFirstBadBy}
 use Rattle.afd_records.specs.declared.error.Notes.{Notes}
-use Rattle.afd_records.specs.declared.reading.ReadLine.{ReadLine}
 use Rattle.afd_records.specs.declared.record.Body.{Body}
 use Rattle.afd_records.specs.declared.record.Body.TheVariants.{Employer, Adjust, Worker, Event, Clocking}
-use Rattle.afd_records.proofs.Apart.{same_cpf, same_text, same_op, same_offline, same_id, same_nsr}
-use Rattle.afd_records.proofs.LooseTexts.{length-stamp, length-cno, same_stamp, same_cno, same_flag}
+use Rattle.afd_records.proofs.LooseTexts.{length-stamp, length-cno}
 use Rattle.afd_records.proofs.Printed.{total-layout, kind_field}
 use Rattle.afd_records.proofs.RecordParts.{layout_for, length-op_text, length-offline_text}
-use Rattle.afd_records.proofs.TypeFields.{type_byte}
 
 -- all fields are on their grammar; they begin at this place
 abbrev pub AreGoodBy : {K : Type 0} → (K → ℕ) → (K → List ℕ → List ℕ → Type 0) → ℕ → List K → List ℕ → Type 0

@@ -1,18 +1,17 @@
 -- The lenient grammar has the strict lines.
-use Rattle.std.proofs.Common.{◌≡◌, ◌≢◌, ◌↔◌, ◌⊎◌, inl, inr, IsTrue, ℕ, List, [], ◌∷◌, ◌++◌, All, length, Option, Some, None, refl, sym, ap, ◌∙◌, subst, arith, append-nil}
-use Rattle.std.specs.Prelude.{Bool, true, false, codes}
+use Rattle.std.proofs.Common.{◌≡◌, ◌≢◌, ◌↔◌, inl, inr, IsTrue, ℕ, List, [], ◌∷◌, ◌++◌, All, Option, Some, None, refl, sym, ap, ◌∙◌, arith, append-nil}
+use Rattle.std.specs.Prelude.{Bool, false}
 use Rattle.std.specs.List.{concat}
 use Rattle.std.proofs.lemmas.Bool.{true≢false}
-use Rattle.std.proofs.lemmas.List.{append_assoc}
 use Rattle.std.proofs.lemmas.List.Elements.{All-weaker}
 use Rattle.std.proofs.lemmas.List.Folds.{concat-append}
 use Rattle.rep_fields.specs.Digits.{numeral, IsDigitByte}
 use Rattle.rep_fields.specs.Moment.{Moment, IsMoment, moment_text}
 use Rattle.afd_records.specs.Checksum.{crc_text}
 use Rattle.afd_records.specs.File.{head_payload_text, head_text, HasHeadText}
-use Rattle.afd_records.specs.Record.{IsWrittenEvent, IsBody, payload_text}
-use Rattle.afd_records.specs.Line.{IsHashText, IsLowerHex, HasHash, IsLineOf, hash_bytes}
-use Rattle.afd_records.specs.Lenient.{IsStampText, IsLooseEvent, IsLooseHash, IsHexDigit, HasLooseHash, Wording, IsLooseLineOf}
+use Rattle.afd_records.specs.Record.{IsWrittenEvent, payload_text}
+use Rattle.afd_records.specs.Line.{IsLowerHex, HasHash, IsLineOf, hash_bytes}
+use Rattle.afd_records.specs.Lenient.{IsStampText, IsLooseEvent, IsHexDigit, HasLooseHash, IsLooseLineOf}
 use Rattle.afd_records.specs.LenientHead.{IsLooseHead, HeadWording, worded_head, IsLooseHeadOf}
 use Rattle.afd_records.specs.Reading.{no_notes}
 use Rattle.afd_records.specs.declared.error.Notes.{Notes}

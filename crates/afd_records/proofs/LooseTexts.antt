@@ -1,14 +1,13 @@
 -- The texts of stamps and of CNO numbers that a lenient reader takes: each tells its value.
-use Rattle.std.proofs.Common.{◌≡◌, ◌≢◌, ◌↔◌, ◌⊎◌, inl, inr, IsTrue, ℕ, List, [], ◌∷◌, length, take, drop, refl, sym, ap, ◌∙◌, subst, arith, ℤ, pos, negsuc, unsigned_abs}
+use Rattle.std.proofs.Common.{◌≡◌, ◌≢◌, ◌↔◌, ◌⊎◌, inl, inr, IsTrue, ℕ, List, ◌∷◌, length, drop, refl, sym, ap, ◌∙◌, subst, arith, ℤ, pos, negsuc, unsigned_abs}
 use Rattle.std.specs.Prelude.{Bool, true, false, codes}
-use Rattle.std.proofs.lemmas.Bool.{true≢false}
 use Rattle.std.proofs.lemmas.List.{length-replicate}
 use Rattle.rep_fields.specs.Digits.{digits, numeral}
 use Rattle.rep_fields.specs.Latin.{space, spaces}
-use Rattle.rep_fields.specs.Moment.{Moment, Lenient, IsLenientText, IsOffset, loose_offset_text, offset_text, hours_text, sign_of}
+use Rattle.rep_fields.specs.Moment.{Moment, Lenient, IsOffset, loose_offset_text, offset_text, hours_text}
 use Rattle.rep_fields.proofs.Numerals.{length-numeral, numeral-injective, no_numeral}
 use Rattle.rep_fields.proofs.StampTexts.{lenient_parts, local_text-injective, offset_text-injective, moment_of_parts}
-use Rattle.rep_fields.proofs.TimeTexts.{offset_text-signed, hours_text-injective}
+use Rattle.rep_fields.proofs.TimeTexts.{hours_text-injective}
 use Rattle.afd_records.specs.Record.{IsCno}
 use Rattle.afd_records.specs.Lenient.{IsStampText, IsCnoText}
 

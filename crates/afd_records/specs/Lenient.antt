@@ -6,7 +6,7 @@ use Rattle.std.specs.Prelude.{◌≡◌, ◌≢◌, ℕ, zero, suc, ◌+◌, ◌
 use Rattle.std.specs.List.{concat}
 use Rattle.rep_fields.specs.Digits.{numeral}
 use Rattle.rep_fields.specs.Latin.{padded, spaces}
-use Rattle.rep_fields.specs.Moment.{Moment, IsMoment, Lenient, IsLenientlyWritten}
+use Rattle.rep_fields.specs.Moment.{Moment, IsMoment, IsLenientlyWritten}
 use Rattle.rep_fields.specs.Employer.{kind_byte, id_text}
 use Rattle.afd_records.specs.Checksum.{crc_text}
 use Rattle.afd_records.specs.Record.{op_text, offline_text, IsBody, IsCno, IsNsr}

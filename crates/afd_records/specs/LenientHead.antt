@@ -1,6 +1,6 @@
 -- The head of an AFD as a reader takes it: type 1 of Portaria MTP 671/2021, annex V (layout 003), with the allowances of
 -- records' lines, a recorder's number of other characters than digits, and a maker's id of digits or spaces.
-use Rattle.std.specs.Prelude.{◌≡◌, ◌≢◌, ℕ, ◌≤◌, ◌⊎◌, ◌↔◌, Bool, IsTrue, List, [], ◌∷◌, ◌++◌, length, slice_index, All, codes}
+use Rattle.std.specs.Prelude.{◌≡◌, ◌≢◌, ℕ, ◌⊎◌, ◌↔◌, Bool, IsTrue, List, [], ◌∷◌, ◌++◌, length, slice_index, All, codes}
 use Rattle.std.specs.List.{concat}
 use Rattle.rep_fields.specs.Digits.{numeral, IsDigitByte}
 use Rattle.rep_fields.specs.Latin.{padded, spaces, IsText}

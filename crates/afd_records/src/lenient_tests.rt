@@ -1,7 +1,6 @@
 //! What lenient readers pass over and what they refuse, by lines with one part altered.
 use crate::tests::{adjust_line, clocking_line, employer_line, event_line, joined, worker_line};
-use crate::{BadLine, Body, Notes, ReadLine, Trailer, read_head, read_loose, read_trailer};
-use rep_fields::Stamp;
+use crate::{BadLine, Body, Notes, ReadLine, Trailer, read, read_head, read_loose, read_trailer};
 use std::alloc::{AllocError, Global};
 
 const CRC: Notes = Notes {
@@ -72,6 +71,14 @@ fn head_notes(line: &[u8], at: usize, text: &[u8]) -> Result<Notes, BadLine> {
         Ok(found) => Ok(found.notes),
         Err(bad) => Err(bad),
     }
+}
+
+fn trailer_altered(line: &[u8], at: usize, text: &[u8]) -> Option<Trailer> {
+    let (cells, len) = altered(line, at, text);
+    if len > cells.len() {
+        return None;
+    }
+    read_trailer(&cells[..len])
 }
 
 fn head_line(alloc: Global) -> Result<Vec<u8>, AllocError> {
@@ -239,45 +246,132 @@ fn each_allowance_has_its_note_and_each_other_change_its_field(rt: HostRuntime) 
     assert!(rt; read_loose(b"") == Err(BadLine { field: 0 }), "no bytes");
 }
 
+// Whether two lines were read as one record.
+fn are_one(found: &Result<ReadLine, BadLine>, other: &Result<ReadLine, BadLine>) -> bool {
+    match (found, other) {
+        (Ok(found), Ok(other)) => {
+            found.nsr == other.nsr && found.body == other.body && found.hash == other.hash
+        }
+        _ => false,
+    }
+}
+
+// The code of an event's line; 0 for any other.
+fn event_code(found: &Result<ReadLine, BadLine>) -> u8 {
+    match found {
+        Ok(found) => match found.body {
+            Body::Event { code, .. } => code,
+            Body::Employer { .. }
+            | Body::Adjust { .. }
+            | Body::Worker { .. }
+            | Body::Clocking { .. } => 0,
+        },
+        Err(_) => 0,
+    }
+}
+
 #[test]
-fn values_are_those_of_the_strict_line(rt: HostRuntime) {
+fn a_strict_line_reads_as_ever(rt: HostRuntime) {
     let alloc = rt.alloc();
     let employer = employer_line(alloc).expect(&rt, "memory");
+    let worker = worker_line(alloc).expect(&rt, "memory");
+    let adjust = adjust_line(alloc).expect(&rt, "memory");
     let event = event_line(alloc).expect(&rt, "memory");
     let clocking = clocking_line(alloc).expect(&rt, "memory");
-    let eight = Stamp::read(b"2024-03-04T08:00:00-0300").expect(&rt, "a stamp");
-    let greenwich = Stamp::read(b"2024-03-04T13:06:00+0000").expect(&rt, "a stamp");
-    let found = read_altered(clocking.as_slice(), 27, b"30");
-    assert!(rt;
-        matches!(found, Ok(ReadLine { nsr: 3, body: Body::Clocking { marked, .. }, .. }) if marked == eight),
-        "seconds are dropped"
-    );
-    let again = read_altered(clocking.as_slice(), 46, b"2024-03-04T08:00:00-0300");
-    assert!(rt;
-        matches!(again, Ok(ReadLine { body: Body::Clocking { recorded, .. }, .. }) if recorded == eight),
-        "one stamp twice"
-    );
-    let found = read_altered(event.as_slice(), 29, b"-000003");
-    assert!(rt;
-        matches!(found, Ok(ReadLine { body: Body::Event { at, code: 3 }, .. }) if at == greenwich),
-        "the offset -0000 is zero"
-    );
-    let found = read_altered(employer.as_slice(), 63, b"              ");
-    assert!(rt;
-        matches!(
-            found,
-            Ok(ReadLine {
-                body: Body::Employer { cno: 0, .. },
-                ..
-            })
+    for line in [
+        employer.as_slice(),
+        worker.as_slice(),
+        adjust.as_slice(),
+        event.as_slice(),
+        clocking.as_slice(),
+    ] {
+        assert!(rt; read_loose(line).is_ok(), "it reads");
+        assert!(rt; read_loose(line) == read(line), "its values and no note");
+    }
+}
+
+#[test]
+fn what_is_passed_over_changes_no_value(rt: HostRuntime) {
+    let alloc = rt.alloc();
+    let employer = employer_line(alloc).expect(&rt, "memory");
+    let worker = worker_line(alloc).expect(&rt, "memory");
+    let event = event_line(alloc).expect(&rt, "memory");
+    let clocking = clocking_line(alloc).expect(&rt, "memory");
+    let cases: [(&[u8], usize, &[u8], &[u8], bool, &str); 8] = [
+        (
+            clocking.as_slice(),
+            27,
+            b"30",
+            b"00",
+            true,
+            "seconds are dropped",
         ),
-        "a blank CNO is none"
-    );
-    let found = read_altered(clocking.as_slice(), 73, b"9D373DC5");
-    assert!(rt;
-        matches!(found, Ok(ReadLine { hash: Some(hash), .. }) if hash[..10] == b"9D373DC5c6"[..]),
-        "a hash stays as it stands"
-    );
+        (
+            clocking.as_slice(),
+            27,
+            b"30",
+            b"31",
+            true,
+            "any seconds are",
+        ),
+        (
+            clocking.as_slice(),
+            24,
+            b"01",
+            b"00",
+            false,
+            "minutes are not",
+        ),
+        (
+            clocking.as_slice(),
+            29,
+            b"-0000",
+            b"+0000",
+            true,
+            "-0000 is zero",
+        ),
+        (
+            clocking.as_slice(),
+            46,
+            b"2024-03-04T08:00",
+            b"2024-03-04T13:00",
+            false,
+            "the second stamp",
+        ),
+        (
+            employer.as_slice(),
+            63,
+            b"              ",
+            b"00000000000000",
+            true,
+            "a blank CNO is none",
+        ),
+        (
+            worker.as_slice(),
+            114,
+            b"????",
+            b"9EFB",
+            true,
+            "a checksum says nothing",
+        ),
+        (
+            clocking.as_slice(),
+            73,
+            b"9D373DC5",
+            b"9d373dc5",
+            false,
+            "a hash stays as it stands",
+        ),
+    ];
+    for (line, at, text, other, same, what) in &cases {
+        let found = read_altered(line, *at, text);
+        assert!(rt; found.is_ok(), "{what}");
+        assert!(rt;
+            are_one(&found, &read_altered(line, *at, other)) == *same,
+            "{what}"
+        );
+    }
+    assert_eq!(rt; event_code(&read_altered(event.as_slice(), 34, b"03")), 3);
 }
 
 #[test]
@@ -358,8 +452,7 @@ fn trailers_are_read_strictly(rt: HostRuntime) {
         (62, b"x", "a letter in the last count"),
         (63, b"8", "another type"),
     ] {
-        let (cells, _) = altered(line, at, text);
-        assert!(rt; read_trailer(&cells[..64]).is_none(), "{what}");
+        assert!(rt; trailer_altered(line, at, text).is_none(), "{what}");
     }
     assert!(rt;
         read_trailer(&line[..63]).is_none(),

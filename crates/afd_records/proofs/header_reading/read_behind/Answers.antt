@@ -1,4 +1,4 @@
-use Rattle.std.proofs.Common.{◌≡◌, [], ◌∷◌, ◌++◌, take, drop, true, false, not, refl, sym, arith}
+use Rattle.std.proofs.Common.{◌≡◌, [], ◌∷◌, ◌++◌, take, drop, refl, sym, arith}
 use Rattle.rep_fields.specs.Employer.{kind_byte, id_text}
 use Rattle.rep_fields.proofs.Layouts.{cuts, one_byte, text_of_parts}
 use Rattle.afd_records.specs.LenientHead.{worded_head, HeadWording}

@@ -1,4 +1,4 @@
-use Rattle.std.proofs.Common.{◌≡◌, [], ◌∷◌, ◌++◌, take, drop, false, sym, refl, arith}
+use Rattle.std.proofs.Common.{◌≡◌, [], ◌∷◌, ◌++◌, take, drop, sym, refl, arith}
 use Rattle.rep_fields.proofs.Layouts.{text_of_parts}
 use Rattle.afd_records.specs.Fields.{adjust_layout}
 use Rattle.afd_records.specs.Lenient.{worded_payload, Wording}

@@ -1,4 +1,4 @@
-use Rattle.std.proofs.Common.{[], ◌∷◌, ◌++◌, take, drop, false, sym, refl, arith}
+use Rattle.std.proofs.Common.{[], ◌∷◌, ◌++◌, take, drop, sym, refl, arith}
 use Rattle.std.proofs.lemmas.Bool.{true≢false}
 use Rattle.rep_fields.proofs.Layouts.{text_of_parts}
 use Rattle.afd_records.specs.Fields.{clocking_layout}

@@ -1,4 +1,4 @@
-use Rattle.std.proofs.Common.{refl, sym, ◌∙◌, true, false, arith}
+use Rattle.std.proofs.Common.{arith}
 use Rattle.afd_records.proofs.TrailerParts.{trailer_line, trailer_from_fields, six_counts}
 use Rattle.afd_records.proofs.trailer_reading.read_trailer.Goals as goal
 use Rattle.afd_records.proofs.trailer_reading.read_trailer.Goals.{then-line-ne-TRAILER_LEN-via-then-line-ne-TRAILER_LEN, then-line-ne-TRAILER_LEN-via-else-line-ne-TRAILER_LEN+then-not-is_literal, then-line-ne-TRAILER_LEN-via-else-line-ne-TRAILER_LEN+else-not-is_literal+then-line-ne-TYPE}
