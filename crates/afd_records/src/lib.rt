@@ -16,21 +16,32 @@ mod checksum;
 mod error;
 mod fields;
 mod header;
+mod header_reading;
+mod lenient;
+mod lenient_laws;
+#[cfg(test)]
+mod lenient_tests;
 mod line;
+mod loose_fields;
 mod reading;
 mod record;
 #[cfg(test)]
 mod tests;
 mod trailer;
+mod trailer_reading;
 mod writing;
 
 pub use checksum::crc16;
 pub use error::{BadLine, Notes};
 pub use header::{HEAD_LEN, Head, print_head};
+pub use header_reading::{ReadHead, read_head};
+pub use lenient::read_loose;
+pub use lenient_laws::what_is_written_reads_leniently;
 pub use line::{
     ADJUST_LEN, AfdLine, CHECKSUM_LEN, CLOCKING_LEN, EMPLOYER_LEN, EVENT_LEN, HASH_LEN, WORKER_LEN,
 };
 pub use reading::{ReadLine, read};
 pub use record::{Body, Op, recorded};
 pub use trailer::{SIGNATURE_LEN, TRAILER_LEN, Trailer, print_trailer, signature};
+pub use trailer_reading::read_trailer;
 pub use writing::{print, stem};

@@ -18,7 +18,7 @@ use crate::record::Body;
 use rep_fields::Stamp;
 
 // Where the digit of the type stands.
-const TYPE_AT: usize = 9;
+pub(crate) const TYPE_AT: usize = 9;
 
 /// A line of a record that was read.
 #[derive(Clone, Copy, Debug, PartialEq, Eq)]

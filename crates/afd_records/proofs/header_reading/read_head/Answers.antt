@@ -1,0 +1,7 @@
+use Rattle.afd_records.proofs.HeadLines.{only_head_answer}
+use Rattle.afd_records.proofs.header_reading.read_head.Goals as goal
+
+pub returns-clause-only : goal.returns-clause-only
+returns-clause-only c head notes is =
+    only_head_answer c.args.line.now c.read_laid_out.result c.read_laid_out.ensures.found c.read_laid_out.ensures.first
+    head notes is
