@@ -1,0 +1,3 @@
+pub mod Key
+pub mod Site
+pub mod Reading
