@@ -19,11 +19,15 @@ key_text LastNsr = codes "last_nsr"
 key_text Restarts = codes "restarts"
 key_text Unknown = codes "?"
 
--- the keys in the order in which they are looked at
+-- the keys in the order in which they are looked at: those of the employer, and those of the recorder
+abbrev pub employing_keys : List SiteKey
+employing_keys = EmployerKind ∷ Employer ∷ Cno ∷ Name ∷ Place ∷ Responsible ∷ []
+
+abbrev pub recording_keys : List SiteKey
+recording_keys = Rep ∷ DeveloperKind ∷ Developer ∷ Offset ∷ LastNsr ∷ Restarts ∷ []
+
 abbrev pub site_keys : List SiteKey
-site_keys =
-    EmployerKind ∷ Employer ∷ Cno ∷ Name ∷ Place ∷ Responsible ∷ Rep ∷ DeveloperKind ∷ Developer ∷ Offset ∷ LastNsr
-    ∷ Restarts ∷ []
+site_keys = employing_keys ++ recording_keys
 
 abbrev pub site_key_texts : List (List ℕ)
 site_key_texts = map key_text site_keys

@@ -44,9 +44,11 @@ pub record IsSiteOf (members : Members) (site : Site) : Type 0 where
   pub restarts : HasOr 0 (HasNumber 0 most_restarts) members (key_text Restarts) site.restarts
   pub known : HasOnly site_key_texts members
 
--- the text says the site
-abbrev pub IsSiteText : List ℕ → Site → Type 0
-IsSiteText text site = (members : Members) × IsTomlOf text members × IsSiteOf members site
+-- the text is a TOML document that says the site
+pub record IsSiteText (text : List ℕ) (site : Site) : Type 0 where
+  pub members : Members
+  pub toml : IsTomlOf text members
+  pub said : IsSiteOf members site
 
 -- the value at the key is there, or has a default, and is on the key's grammar; an id is looked at with its kind. Of
 -- `Unknown`: each key is a known one
@@ -75,5 +77,7 @@ abbrev pub IsFirstBadKey : Members → SiteKey → Type 0
 IsFirstBadKey members key = IsFirstOff (IsSound members) looked_at key
 
 -- the text is a TOML document, and this its first key that is off
-abbrev pub IsOffAt : List ℕ → SiteKey → Type 0
-IsOffAt text key = (members : Members) × IsTomlOf text members × IsFirstBadKey members key
+pub record IsOffAt (text : List ℕ) (key : SiteKey) : Type 0 where
+  pub members : Members
+  pub toml : IsTomlOf text members
+  pub first : IsFirstBadKey members key
