@@ -1,23 +1,22 @@
 -- Laws of sites and of the members that say them.
-use Rattle.std.proofs.Common.{◌≡◌, ℕ, ◌≤◌, List, [], ◌++◌, length, Some, Result, Err, ℤ, inl, inr, refl, sym, ap, ◌∙◌, subst, arith}
-use Rattle.rep_fields.specs.Digits.{numeral, digits, FitsDigits}
+use Rattle.std.proofs.Common.{◌≡◌, ℕ, ◌≤◌, List, length, Result, Err, inl, inr, sym, ap, ◌∙◌, subst, arith}
+use Rattle.rep_fields.specs.Digits.{numeral, FitsDigits}
 use Rattle.rep_fields.specs.Moment.{IsOffset, offset_text}
 use Rattle.rep_fields.specs.Identity.{IsCpf, cpf_text}
 use Rattle.rep_fields.proofs.Ids.{FitsDigits-wider, cpf_text-injective}
 use Rattle.rep_fields.proofs.Numerals.{numeral-injective}
 use Rattle.rep_fields.proofs.StampTexts.{offset_text-injective}
 use Rattle.toml.specs.Data.{Members}
-use Rattle.toml_fields.specs.Answering.{IsFirstOff}
-use Rattle.toml_fields.specs.Table.{IsTomlOf, HasText, HasOr, IsMissing}
-use Rattle.toml_fields.specs.Fields.{HasNumber, HasFixed, kind_number}
+use Rattle.toml_fields.specs.Table.{HasOr}
+use Rattle.toml_fields.specs.Fields.{HasNumber, kind_number}
 use Rattle.toml_fields.proofs.Found.{HasText-unique, HasFixed-unique, HasLatin-unique, HasId-unique, HasOr-unique, HasNumberOr-unique, IsTomlOf-unique}
-use Rattle.toml_fields.proofs.FirstOff.{AreSound, AreSound-append, first_off-sound}
-use Rattle.rep_site.specs.Key.{key_text, employing_keys, recording_keys, site_keys, looked_at}
+use Rattle.toml_fields.proofs.FirstOff.{AreSound, first_off-sound}
+use Rattle.rep_site.specs.Key.{key_text, employing_keys, recording_keys, looked_at}
 use Rattle.rep_site.specs.Site.{IsSite, IsRegistration, greatest_nsr, most_restarts}
-use Rattle.rep_site.specs.Reading.{IsCnoText, HasCno, IsSiteOf, IsSiteText, IsSound, IsFirstBadKey, IsOffAt}
+use Rattle.rep_site.specs.Reading.{HasCno, IsSiteOf, IsSiteText, IsSound, IsOffAt}
 use Rattle.rep_site.specs.Parts.{IsEmployingOf, IsRecordingOf}
 use Rattle.rep_site.specs.declared.key.SiteKey.{SiteKey}
-use Rattle.rep_site.specs.declared.key.SiteKey.TheVariants.{EmployerKind, Employer, Cno, Name, Place, Responsible, Rep, DeveloperKind, Developer, Offset, LastNsr, Restarts, Unknown}
+use Rattle.rep_site.specs.declared.key.SiteKey.TheVariants.{EmployerKind, Employer, Cno, Name, Place, Responsible, Rep, DeveloperKind, Developer, Offset, LastNsr, Restarts}
 use Rattle.rep_site.specs.declared.fault.SiteFault.{SiteFault}
 use Rattle.rep_site.specs.declared.fault.SiteFault.TheVariants.{SiteField}
 use Rattle.rep_site.specs.declared.site.Site.{Site}
@@ -26,22 +25,59 @@ use Rattle.rep_site.specs.declared.reading.Recording.{Recording}
 
 -- the keys that say a part are sound
 pub employing_sound : (ms : Members) (part : Employing) → IsEmployingOf ms part → AreSound (IsSound ms) employing_keys
-employing_sound ms part is =
-    ((kind_number part.employer, is.employer_kind), ((part.employer, is.employer_kind, is.employer), ((part.cno, is.cno),
-    ((part.name, is.name), ((part.place, is.place), ((part.responsible, is.responsible), tt))))))
+employing_sound ms part is = (
+  (kind_number part.employer, is.employer_kind),
+  (
+    (part.employer, is.employer_kind, is.employer),
+    (
+      (part.cno, is.cno),
+      ((part.name, is.name), ((part.place, is.place), ((part.responsible, is.responsible), tt))),
+    ),
+  ),
+)
 
 pub recording_sound : (ms : Members) (part : Recording) → IsRecordingOf ms part → AreSound (IsSound ms) recording_keys
-recording_sound ms part is =
-    ((part.rep, is.rep), ((kind_number part.developer, is.developer_kind), ((part.developer, is.developer_kind, is.developer),
-    ((part.offset, is.offset), ((part.last_nsr, is.last_nsr), ((part.restarts, is.restarts), tt))))))
+recording_sound ms part is = (
+  (part.rep, is.rep),
+  (
+    (kind_number part.developer, is.developer_kind),
+    (
+      (part.developer, is.developer_kind, is.developer),
+      ((part.offset, is.offset), ((part.last_nsr, is.last_nsr), ((part.restarts, is.restarts), tt))),
+    ),
+  ),
+)
 
 -- all keys of members that say a site are sound
 pub site_sound : (ms : Members) (site : Site) → IsSiteOf ms site → AreSound (IsSound ms) looked_at
-site_sound ms site is =
-    ((kind_number site.employer, is.employer_kind), ((site.employer, is.employer_kind, is.employer), ((site.cno, is.cno),
-    ((site.name, is.name), ((site.place, is.place), ((site.responsible, is.responsible),
-    ((site.rep, is.rep), ((kind_number site.developer, is.developer_kind), ((site.developer, is.developer_kind, is.developer),
-    ((site.offset, is.offset), ((site.last_nsr, is.last_nsr), ((site.restarts, is.restarts), (is.known, tt)))))))))))))
+site_sound ms site is = (
+  (kind_number site.employer, is.employer_kind),
+  (
+    (site.employer, is.employer_kind, is.employer),
+    (
+      (site.cno, is.cno),
+      (
+        (site.name, is.name),
+        (
+          (site.place, is.place),
+          (
+            (site.responsible, is.responsible),
+            (
+              (site.rep, is.rep),
+              (
+                (kind_number site.developer, is.developer_kind),
+                (
+                  (site.developer, is.developer_kind, is.developer),
+                  ((site.offset, is.offset), ((site.last_nsr, is.last_nsr), ((site.restarts, is.restarts), (is.known, tt)))),
+                ),
+              ),
+            ),
+          ),
+        ),
+      ),
+    ),
+  ),
+)
 
 HasCno-unique : (ms : Members) (key : List ℕ) (m n : ℕ) → HasCno ms key m → HasCno ms key n → m ≡ n
 HasCno-unique ms key m n (text, is_m, has_m) (other, is_n, has_n) =
@@ -74,8 +110,16 @@ IsSiteOf-unique ms s t is_s is_t =
     let restarts : s.restarts ≡ t.restarts =
     HasNumberOr-unique 0 0 most_restarts ms (key_text Restarts) s.restarts t.restarts is_s.restarts is_t.restarts in
     λ i. record {
-      employer = employer i; cno = cno i; name = name i; place = place i; responsible = responsible i; rep = rep i;
-      developer = developer i; offset = offset i; last_nsr = last_nsr i; restarts = restarts i
+      employer = employer i;
+      cno = cno i;
+      name = name i;
+      place = place i;
+      responsible = responsible i;
+      rep = rep i;
+      developer = developer i;
+      offset = offset i;
+      last_nsr = last_nsr i;
+      restarts = restarts i;
     }
 
 -- a text says one site
@@ -123,5 +167,5 @@ site_in_range ms site is =
       offset = is.offset.in_range;
       numbers = last.0;
       last_nsr = last.1;
-      restarts = count.1
+      restarts = count.1;
     }

@@ -1,6 +1,4 @@
 -- The two parts of a site, as its reader puts them together.
-use Rattle.rep_fields.specs.declared.employer.EmployerId.{EmployerId}
-use Rattle.std.specs.Prelude.{ℕ}
 use Rattle.toml.specs.Data.{Members}
 use Rattle.toml_fields.specs.Table.{HasOr}
 use Rattle.toml_fields.specs.Fields.{HasNumber, HasLatin, HasSome, HasCpf, HasOffset, HasId, kind_number}

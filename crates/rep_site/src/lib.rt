@@ -6,6 +6,8 @@ mod fault;
 mod key;
 mod reading;
 mod site;
+#[cfg(test)]
+mod tests;
 
 pub use fault::SiteFault;
 pub use key::SiteKey;

@@ -1,5 +1,5 @@
 -- Laws of the first key that is off.
-use Rattle.std.proofs.Common.{◌≡◌, List, [], ◌∷◌, ◌++◌, inl, inr, sym, ◌∙◌, subst}
+use Rattle.std.proofs.Common.{◌≡◌, List, [], ◌∷◌, ◌++◌, inl, inr, sym, ◌∙◌}
 use Rattle.toml_fields.specs.Answering.{IsFirstOff}
 
 -- each of the keys is sound

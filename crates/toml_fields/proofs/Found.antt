@@ -1,17 +1,17 @@
 -- Laws of the values at keys: each key says one value.
-use Rattle.std.proofs.Common.{◌≡◌, ℕ, pos, List, [], ◌++◌, Option, Some, None, inl, inr, refl, sym, ap, ◌∙◌, arith}
+use Rattle.std.proofs.Common.{◌≡◌, ℕ, pos, List, ◌++◌, Option, Some, None, inl, inr, refl, sym, ap, ◌∙◌, arith}
 use Rattle.std.proofs.lemmas.Option.{same_Some}
 use Rattle.std.proofs.lemmas.Str.{encodes_same}
 use Rattle.rep_fields.specs.Decoding.{TellsApart}
 use Rattle.rep_fields.specs.Employer.{IsEmployerId}
-use Rattle.rep_fields.specs.Latin.{IsFilled, spaces}
+use Rattle.rep_fields.specs.Latin.{spaces}
 use Rattle.rep_fields.specs.declared.employer.EmployerId.{EmployerId}
 use Rattle.rep_fields.specs.declared.employer.EmployerId.TheVariants.{Cnpj, Person}
 use Rattle.rep_fields.proofs.Ids.{cpf_text-injective, cnpj_text-injective}
 use Rattle.rep_fields.proofs.Texts.{IsFilled-unique}
-use Rattle.toml.specs.Data.{Members, get_member, string, integer}
+use Rattle.toml.specs.Data.{Members, string, integer}
 use Rattle.toml_fields.specs.Answering.{Finds}
-use Rattle.toml_fields.specs.Table.{IsTomlOf, HasText, HasInteger, HasOr, IsMissing}
+use Rattle.toml_fields.specs.Table.{IsTomlOf, HasText, HasOr, IsMissing}
 use Rattle.toml_fields.specs.Fields.{HasNumber, HasFixed, HasLatin, HasId, kind_number, id_digits}
 
 -- a key holds one text

@@ -1,5 +1,5 @@
 -- Laws of the keys of a table and of lists of keys.
-use Rattle.std.proofs.Common.{◌≡◌, ℕ, zero, suc, ◌+◌, ◌<◌, List, [], ◌∷◌, length, map, get_or, Bool, true, false, ◌||◌, Option, Some, None, Ordering, Less, Equal, Greater, String, Global, Bor, string_bytes, nat_cmp, refl, sym, ap, ◌∙◌, subst, arith, inl, inr, ◌⊎◌}
+use Rattle.std.proofs.Common.{◌≡◌, ℕ, zero, suc, List, [], ◌∷◌, map, true, ◌||◌, Option, Some, Ordering, Less, Equal, Greater, String, Global, Bor, string_bytes, nat_cmp, refl, sym, ap, subst, arith, inl, inr, ◌⊎◌}
 use Rattle.std.proofs.lemmas.Bool.{cases_Bool}
 use Rattle.std.proofs.lemmas.Cmp.{nat_list_cmp_total, tied_itself}
 use Rattle.std.proofs.lemmas.Map.Lookups.{exact_bytes}
@@ -10,7 +10,7 @@ use Rattle.std.specs.Str.{bytes_eq}
 use Rattle.std.specs.Map.{keys_of}
 use Rattle.std.specs.Cmp.Lexicographic.{slice_cmp}
 use Rattle.std.specs.Ordering.{match_ordering}
-use Rattle.toml.specs.Data.{Data, Members, no_members, member, get_member}
+use Rattle.toml.specs.Data.{Data, get_member}
 use Rattle.toml.specs.View.{view, members_view}
 use Rattle.toml.proofs.Views.{Entry}
 
@@ -62,7 +62,7 @@ something_at_key (e ∷ es) k there =
     elim (Contains-cases (keys_of es) e.0 k there) [
       | inl same ↦ (view e.1, rw same (rw (tied_itself nat_list_cmp_total (string_bytes k)) refl))
       | inr more ↦ let rest = something_at_key es k more in
-        some_either_way (slice_cmp nat_cmp (string_bytes k) (string_bytes e.0)) (view e.1) (get_member (string_bytes k) (members_view es)) rest.0 rest.1
+          some_either_way (slice_cmp nat_cmp (string_bytes k) (string_bytes e.0)) (view e.1) (get_member (string_bytes k) (members_view es)) rest.0 rest.1
     ]
 
 this_or_rest : (key name : List ℕ) (o : Ordering) (d : Data) (rest : Option Data) (found : Data) → slice_cmp nat_cmp key name ≡ o

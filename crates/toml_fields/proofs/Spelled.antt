@@ -1,7 +1,7 @@
 -- Laws of texts of ISO 8859-1 that TOML spells.
-use Rattle.std.proofs.Common.{◌≡◌, ◌≢◌, ℕ, ◌+◌, ◌-◌, ◌<◌, ◌≤◌, min, List, [], ◌∷◌, ◌++◌, length, get_or, take, replicate, All, Option, Some, None, inl, inr, refl, sym, ap, ◌∙◌, subst, arith}
+use Rattle.std.proofs.Common.{◌≡◌, ℕ, ◌+◌, ◌-◌, ◌<◌, ◌≤◌, List, [], ◌∷◌, ◌++◌, length, get_or, take, All, Option, Some, None, inl, inr, refl, sym, ap, ◌∙◌, subst, arith}
 use Rattle.std.proofs.lemmas.Bool.{cases_lt}
-use Rattle.std.proofs.lemmas.List.{length-append, length-replicate, append_assoc, append-nil, replicate-append-replicate, replicate_more, take_all, take_at, length_push, get_or-replicate, get_or-append_right, take-replicate}
+use Rattle.std.proofs.lemmas.List.{length-append, length-replicate, append_assoc, append-nil, replicate-append-replicate, replicate_more, take_at, length_push, get_or-replicate, get_or-append_right, take-replicate}
 use Rattle.std.proofs.lemmas.List.Elements.{All-append, All-push, All-replicate, All-nil, All-get_or}
 use Rattle.std.proofs.Math.Seq.{take-append-add}
 use Rattle.std.proofs.lemmas.Str.{chars_from_encodes, encodes-chars}
@@ -60,7 +60,7 @@ IsFrontOf-more room front characters character is some latin =
       whole = ap (λ cs. cs ++ character ∷ []) whole ∙ sym (append-nil (front ++ character ∷ []));
       latin = All-push IsLatin front character is.latin latin;
       within = omega (arith, length_push front character);
-      full = λ _. refl
+      full = λ _. refl;
     }
 
 -- one space more, behind a front that has no more room
@@ -69,10 +69,10 @@ pub IsFrontOf-space : (room : ℕ) (front characters : List ℕ) → IsFrontOf r
 IsFrontOf-space room front characters is full = record {
   count = is.count + 1;
   whole = ap (λ cs. cs ++ space ∷ []) is.whole ∙ append_assoc front (spaces is.count) (space ∷ [])
-  ∙ ap (λ cs. front ++ cs) (replicate_more is.count space);
+      ∙ ap (λ cs. front ++ cs) (replicate_more is.count space);
   latin = is.latin;
   within = is.within;
-  full = λ less. absurd (omega arith)
+  full = λ less. absurd (omega arith);
 }
 
 -- a text that is spelled by all the characters fills the front
@@ -82,25 +82,30 @@ filled most front characters text count is short same =
     elim (cases_lt (length front) most) [
       | inl some ↦ (count, sym (is.whole ∙ ap (λ (n : ℕ). front ++ spaces n) (is.full some) ∙ append-nil front) ∙ sym same)
       | inr full ↦
-        let long = ap length (same ∙ is.whole) in
-        let sum = length-append text (spaces count) in
-        let front_sum = length-append front (spaces is.count) in
-        let spaced = length-replicate count space in
-        let front_spaced = length-replicate is.count space in
-        (length front - length text,
-        sym (take_at front (spaces is.count) (length front) refl) ∙ ap (λ cs. take (length front) cs) (sym (same ∙ is.whole))
-        ∙ ap (λ (n : ℕ). take n (text ++ spaces count)) (omega arith)
-        ∙ take-append-add text (spaces count) (length front - length text)
-        ∙ ap (λ cs. text ++ cs) (take-replicate (length front - length text) count space (omega arith)))
+          let long = ap length (same ∙ is.whole) in
+          let sum = length-append text (spaces count) in
+          let front_sum = length-append front (spaces is.count) in
+          let spaced = length-replicate count space in
+          let front_spaced = length-replicate is.count space in (
+            length front - length text,
+            sym (take_at front (spaces is.count) (length front) refl) ∙ ap (λ cs. take (length front) cs) (sym (same ∙ is.whole))
+                ∙ ap (λ (n : ℕ). take n (text ++ spaces count)) (omega arith)
+                ∙ take-append-add text (spaces count) (length front - length text)
+                ∙ ap (λ cs. text ++ cs) (take-replicate (length front - length text) count space (omega arith)),
+          )
     ]
 
 -- the text that the front holds is spelled by all the characters
 pub spelled_from_front : (most : ℕ) (front utf8 : List ℕ) (result : Option (List ℕ)) → IsUtf8 utf8 → IsFrontOf most front (chars utf8)
     → DecodesBy (IsText most) IsFilled front result → DecodesBy (IsText most) IsSpelled utf8 result
-spelled_from_front most front utf8 (Some text) is_utf8 is read =
-    (read.0, (read.1.0 + is.count,
-      sym (encodes-chars utf8 is_utf8)
-      ∙ ap encode_utf8_all (is.whole ∙ ap (λ cs. cs ++ spaces is.count) read.1.1 ∙ append_assoc text (spaces read.1.0) (spaces is.count)
-      ∙ ap (λ cs. text ++ cs) (replicate-append-replicate read.1.0 is.count space))))
+spelled_from_front most front utf8 (Some text) is_utf8 is read = (
+  read.0,
+  (
+    read.1.0 + is.count,
+    sym (encodes-chars utf8 is_utf8)
+        ∙ ap encode_utf8_all (is.whole ∙ ap (λ cs. cs ++ spaces is.count) read.1.1 ∙ append_assoc text (spaces read.1.0) (spaces is.count)
+        ∙ ap (λ cs. text ++ cs) (replicate-append-replicate read.1.0 is.count space)),
+  ),
+)
 spelled_from_front most front utf8 None is_utf8 is none = λ text is_text spelled.
     none text is_text (filled most front (chars utf8) text spelled.0 is is_text.short (chars-spelled text utf8 is_utf8 spelled))

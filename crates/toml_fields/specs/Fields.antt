@@ -1,6 +1,6 @@
 -- The grammars of the values of this project's own TOML files. A value of a fixed form (an id, a CPF, an offset) is
 -- read as it stands; of a text, the spaces at its end don't count.
-use Rattle.std.specs.Prelude.{◌≡◌, ◌≢◌, ℕ, ℤ, pos, ◌≤◌, List, length, All}
+use Rattle.std.specs.Prelude.{ℕ, ℤ, pos, ◌≤◌, List, length}
 use Rattle.rep_fields.specs.Digits.{numeral}
 use Rattle.rep_fields.specs.Latin.{IsText}
 use Rattle.rep_fields.specs.Moment.{IsOffset, offset_text}

@@ -1,5 +1,5 @@
 -- What stands at the keys of a TOML table. TOML is the language that the kit's `toml` reads (TOML 1.1).
-use Rattle.std.specs.Prelude.{◌≡◌, ℕ, ◌⊎◌, ℤ, List, Option, Some, None, IsUtf8, Contains}
+use Rattle.std.specs.Prelude.{◌≡◌, ℕ, ◌⊎◌, ℤ, List, Some, None, IsUtf8, Contains}
 use Rattle.toml.specs.Data.{Data, Members, string, integer, get_member}
 use Rattle.toml.specs.Parse.{parse_document}
 

@@ -5,7 +5,11 @@
 mod fields;
 mod latin;
 mod table;
+#[cfg(test)]
+mod tests;
 
-pub use fields::{cpf_at, id_at, number_at, number_or, offset_at, some_text_at, text_at, text_or_empty};
+pub use fields::{
+    cpf_at, id_at, number_at, number_or, offset_at, some_text_at, text_at, text_or_empty,
+};
 pub use latin::read_latin;
 pub use table::{TomlFault, has_only, integer_at, is_missing, read_table, str_at};

@@ -1,7 +1,7 @@
-use Rattle.std.proofs.Common.{◌≡◌, ℤ, w16, to_z, of_z, refl, rules, inl, [], ◌∷◌, ◌∙◌, sym}
+use Rattle.std.proofs.Common.{◌≡◌, w16, to_z, of_z, refl, rules, inl, [], ◌∷◌, ◌∙◌, sym}
 use Rattle.std.proofs.lemmas.Bool.{false≢true}
 use Rattle.toml.specs.View.{table_view}
-use Rattle.toml_fields.proofs.FirstOff.{AreSound-append, first_off-front, first_off-behind}
+use Rattle.toml_fields.proofs.FirstOff.{AreSound-append, first_off-behind}
 use Rattle.rep_site.specs.Key.{employing_keys, recording_keys, site_keys}
 use Rattle.rep_site.specs.Reading.{IsSound}
 use Rattle.rep_site.specs.declared.key.SiteKey.TheVariants.{Unknown}
@@ -34,5 +34,5 @@ returns-clause-ok c =
       offset = rw offset second.offset;
       last_nsr = second.last_nsr;
       restarts = second.restarts;
-      known = c.has_only.ensures.0 c.if-not-has_only.false
+      known = c.has_only.ensures.0 c.if-not-has_only.false;
     }

@@ -1,4 +1,4 @@
-use Rattle.std.proofs.Common.{◌≡◌, [], length, ap, ◌∙◌, refl, arith}
+use Rattle.std.proofs.Common.{length, ap, ◌∙◌, refl, arith}
 use Rattle.toml.specs.View.{table_view}
 use Rattle.toml_fields.proofs.Found.{HasLatin-unique}
 use Rattle.toml_fields.proofs.fields.some_text_at.Goals as goal

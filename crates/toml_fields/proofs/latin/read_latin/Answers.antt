@@ -1,4 +1,4 @@
-use Rattle.std.proofs.Common.{◌≡◌, ◌<◌, ◌≤◌, ◌++◌, ◌∷◌, [], length, get_or, map, map-id, sym, ap, ◌∙◌, subst, arith, inl, inr}
+use Rattle.std.proofs.Common.{◌≤◌, length, map-id, sym, ap, ◌∙◌, subst, arith, inl, inr}
 use Rattle.std.proofs.lemmas.Bool.{false≢true}
 use Rattle.std.proofs.lemmas.List.{length-append}
 use Rattle.rep_fields.specs.Latin.{spaces}
@@ -26,12 +26,12 @@ returns-then-byte-ne-SPACE g c = λ text is_text spelled.
     let is_byte = c.in-Ok.ensures.1 in
     elim c.else-len.branch [
       | else-len-via-then-len+else-is_latin w ↦
-        let latin = spelled_latin g.row.N text c.args.text.now (length c.loop-c.yielded) c.in-Some.c c.utf8.text is_text spelled turn.0 turn.1 in
-        absurd (false≢true (sym w.if-is_latin.false ∙ w.is_latin.ensures.1 (rw is_byte latin)))
+          let latin = spelled_latin g.row.N text c.args.text.now (length c.loop-c.yielded) c.in-Some.c c.utf8.text is_text spelled turn.0 turn.1 in
+          absurd (false≢true (sym w.if-is_latin.false ∙ w.is_latin.ensures.1 (rw is_byte latin)))
       | else-len-via-else-len w ↦
-        let whole = ap length c.loop-c.invariant.whole in
-        let sum = length-append c.loop-c.row (spaces c.loop-c.invariant.count) in
-        c.if-byte-ne-SPACE.true (is_byte ∙ spelled_space g.row.N text c.args.text.now (length c.loop-c.yielded) c.in-Some.c c.utf8.text is_text spelled (omega arith) turn.0 turn.1)
+          let whole = ap length c.loop-c.invariant.whole in
+          let sum = length-append c.loop-c.row (spaces c.loop-c.invariant.count) in
+          c.if-byte-ne-SPACE.true (is_byte ∙ spelled_space g.row.N text c.args.text.now (length c.loop-c.yielded) c.in-Some.c c.utf8.text is_text spelled (omega arith) turn.0 turn.1)
     ]
 
 pub loop-c-preserved : goal.loop-c-preserved

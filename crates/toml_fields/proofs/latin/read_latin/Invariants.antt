@@ -1,5 +1,3 @@
-use Rattle.std.proofs.Common.{◌≡◌, ℕ, ◌-◌, ◌<◌, ◌≤◌, ◌++◌, length, All}
-use Rattle.rep_fields.specs.Latin.{IsLatin, spaces}
 use Rattle.toml_fields.proofs.Spelled.{IsFrontOf}
 use Rattle.toml_fields.proofs.latin.read_latin.Given as goal
 

@@ -1,4 +1,4 @@
-use Rattle.std.proofs.Common.{ℕ, ◌<◌, length, map, string_bytes, Contains, All}
+use Rattle.std.proofs.Common.{map, string_bytes, Contains, All}
 use Rattle.toml_fields.proofs.table.has_only.Given as goal
 
 abbrev pub invariant-loop-key : goal.invariant-loop-key

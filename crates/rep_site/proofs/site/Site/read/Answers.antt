@@ -1,4 +1,4 @@
-use Rattle.std.proofs.Common.{◌≡◌, Ok, Err, inl, sym, ap, subst, ◌∙◌}
+use Rattle.std.proofs.Common.{Ok, Err, inl, ap, subst}
 use Rattle.toml.specs.View.{table_view}
 use Rattle.rep_site.specs.Reading.{IsFirstBadKey}
 use Rattle.rep_site.proofs.SiteLemmas.{site_in_range, IsSiteText-unique, no_key_off, same_key_named}
@@ -21,7 +21,7 @@ pub returns-clause-first_bad_key : goal.returns-clause-first_bad_key
 returns-clause-first_bad_key c = λ key same. record {
   members = table_view c.in-Ok.table;
   toml = c.in-Ok.ensures.ok;
-  first = subst (IsFirstBadKey (table_view c.in-Ok.table)) (same_key_named c.in-Err.name key same) c.in-Err.ensures.off
+  first = subst (IsFirstBadKey (table_view c.in-Ok.table)) (same_key_named c.in-Err.name key same) c.in-Err.ensures.off;
 }
 
 pub returns-clause-found : goal.returns-clause-found
