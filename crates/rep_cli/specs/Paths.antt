@@ -4,4 +4,3 @@ use Rattle.std.specs.Prelude.{◌≡◌, ℕ, List, [], ◌∷◌, map, get_or, 
 -- the word at a place, counted from 0
 abbrev pub word_at : List (List ℕ) → ℕ → List ℕ
 word_at words place = get_or words place []
-
