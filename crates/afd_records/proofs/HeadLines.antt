@@ -1,6 +1,8 @@
 -- The head's line that a reader takes: its fields, that each is on its grammar, and that they tell the head.
 use Rattle.std.proofs.Common.{◌≡◌, ◌↔◌, inl, inr, IsTrue, ℕ, suc, List, [], ◌∷◌, ◌++◌, All, length, take, drop, Result, Ok, Err, refl, sym, ap, ◌∙◌, subst, arith}
-use Rattle.std.specs.Prelude.{Bool, codes, IfOk, IfErr}
+use Rattle.afd_records.specs.File.{head_text, HasHeadText}
+use Rattle.std.specs.Prelude.{false, Bool, codes, IfOk, IfErr}
+use Rattle.std.specs.List.{concat}
 use Rattle.std.proofs.Math.Seq.{take-add}
 use Rattle.rep_fields.specs.Digits.{numeral, FitsDigits, IsDigitByte}
 use Rattle.rep_fields.specs.Latin.{padded}
@@ -15,7 +17,7 @@ use Rattle.rep_fields.proofs.StampTexts.{length-day_text, day_text-injective}
 use Rattle.rep_fields.proofs.Texts.{length-padded}
 use Rattle.afd_records.specs.HeadParts.{IsOwnerIn}
 use Rattle.afd_records.specs.Lenient.{IsStampText, IsCnoText, IsFirstBadBy}
-use Rattle.afd_records.specs.LenientHead.{HeadField, DayField, MakerKindField, MakerField, Literal, Shared, head_width, head_layout, IsHeadField, IsHeadLaidOut, IsFirstBadOfHead, IsMaker, IsMakerKind, HeadWording, worded_head, IsLooseHeadOf}
+use Rattle.afd_records.specs.LenientHead.{IsLooseHead, HeadField, DayField, MakerKindField, MakerField, Literal, Shared, head_width, head_layout, IsHeadField, IsHeadLaidOut, IsFirstBadOfHead, IsMaker, IsMakerKind, HeadWording, worded_head, IsHeadWorded, IsLooseHeadOf, IsPrintedHead}
 use Rattle.afd_records.specs.Fields.{StampField, TextField, ChecksumField}
 use Rattle.afd_records.specs.declared.error.BadLine.{BadLine}
 use Rattle.afd_records.specs.declared.error.Notes.{Notes}
@@ -26,6 +28,7 @@ use Rattle.afd_records.proofs.Apart.{same_text, same_id}
 use Rattle.afd_records.proofs.IdFields.{id_cuts, id_field}
 use Rattle.afd_records.proofs.LooseApart.{same_stamps, same_cnos, same_crc, same_notes}
 use Rattle.afd_records.proofs.LooseLines.{AreGoodBy, good_not_bad_by}
+use Rattle.afd_records.proofs.LooseStrict.{own_words, own_worded, own_written, printed_head_is_loose}
 use Rattle.afd_records.proofs.LooseTexts.{length-stamp, length-cno, same_flag}
 use Rattle.afd_records.proofs.Printed.{kind_field}
 
@@ -51,45 +54,53 @@ fields head words = worded_head head words ++ words.checksum ∷ []
 abbrev pub head_widths : List ℕ
 head_widths = 9 ∷ 1 ∷ 1 ∷ 14 ∷ 14 ∷ 150 ∷ 17 ∷ 10 ∷ 10 ∷ 24 ∷ 3 ∷ 1 ∷ 14 ∷ 30 ∷ 4 ∷ []
 
-widths-head : (head : Head) (notes : Notes) (line : List ℕ) (is : IsLooseHeadOf head notes line)
-    → widths_of (fields head is.words) ≡ head_widths
-widths-head head notes line is =
+-- the texts of a line of the head
+record IsText (head : Head) (words : HeadWording) (line : List ℕ) : Type 0 where
+  in_range : IsLooseHead head
+  worded : IsHeadWorded head words
+  written : line ≡ concat (fields head words)
+
+text_of : (head : Head) (notes : Notes) (line : List ℕ) (is : IsLooseHeadOf head notes line) → IsText head is.words line
+text_of head notes line is = record { in_range = is.in_range; worded = is.worded; written = is.written }
+
+widths-head : (head : Head) (words : HeadWording) (line : List ℕ) → IsText head words line
+    → widths_of (fields head words) ≡ head_widths
+widths-head head words line is =
     rw (
       length-numeral 14 (id_number head.id),
-      length-cno head.cno is.words.cno is.worded.cno,
+      length-cno head.cno words.cno is.worded.cno,
       length-padded 150 head.name is.in_range.name.short,
       is.in_range.rep.size,
       length-day_text head.first,
       length-day_text head.last,
-      length-stamp head.made is.words.made_odd is.words.made is.worded.made,
+      length-stamp head.made words.made_odd words.made is.worded.made,
       length-numeral 1 head.dev_kind,
       is.in_range.dev.0,
       length-padded 30 head.model is.in_range.model.short,
       is.worded.checksum,
     ) refl
 
-cuts-head : (head : Head) (notes : Notes) (line : List ℕ) (is : IsLooseHeadOf head notes line)
-    → cuts 0 head_widths line ≡ fields head is.words
-cuts-head head notes line is =
-    subst (λ (widths : List ℕ). cuts 0 widths line ≡ fields head is.words) (widths-head head notes line is)
-    (parts_of_text (fields head is.words) line is.written)
+cuts-head : (head : Head) (words : HeadWording) (line : List ℕ) → IsText head words line
+    → cuts 0 head_widths line ≡ fields head words
+cuts-head head words line is =
+    subst (λ (widths : List ℕ). cuts 0 widths line ≡ fields head words) (widths-head head words line is)
+    (parts_of_text (fields head words) line is.written)
 
-length-head : (head : Head) (notes : Notes) (line : List ℕ) → IsLooseHeadOf head notes line → length line ≡ 302
-length-head head notes line is =
-    ap length is.written ∙ length-concat (fields head is.words) ∙ ap total (widths-head head notes line is)
+length-head : (head : Head) (words : HeadWording) (line : List ℕ) → IsText head words line → length line ≡ 302
+length-head head words line is =
+    ap length is.written ∙ length-concat (fields head words) ∙ ap total (widths-head head words line is)
 
-head_laid_out : (head : Head) (notes : Notes) (line : List ℕ) → IsLooseHeadOf head notes line → IsHeadLaidOut line
-head_laid_out head notes line is =
-    let cut = cuts-head head notes line is in
-    let size = length-head head notes line is in
+head_laid_out : (head : Head) (words : HeadWording) (line : List ℕ) → IsText head words line → IsHeadLaidOut line
+head_laid_out head words line is =
+    let cut = cuts-head head words line is in
+    let size = length-head head words line is in
     record { type = byte_of_part line 9 49 (omega (arith, size)) (cc cut); size = size }
 
-head_good : (head : Head) (notes : Notes) (line : List ℕ) → IsLooseHeadOf head notes line
+head_good : (head : Head) (words : HeadWording) (line : List ℕ) → IsText head words line
     → AreGoodBy head_width IsHeadField 0 head_layout line
-head_good head notes line is =
-    let words = is.words in
+head_good head words line is =
     let in_range = is.in_range in
-    let cut = cuts-head head notes line is in
+    let cut = cuts-head head words line is in
     let zeros : take 9 line ≡ codes "000000000" = cc cut in
     let type : take 1 (drop 9 line) ≡ codes "1" = cc cut in
     let kind_is : take 1 (drop 10 line) ≡ kind_byte head.id ∷ [] = cc cut in
@@ -135,19 +146,13 @@ head_of id cno name rep first last made dev_kind dev model = record {
   model = model;
 }
 
--- what a line tells
-record IsSame (a b : Head) (s t : Notes) : Type 0 where
-  head : a ≡ b
-  notes : s ≡ t
-
 -- two heads of one line are one
-same_head : (a b : Head) (s t : Notes) (line : List ℕ) → IsLooseHeadOf a s line → IsLooseHeadOf b t line → IsSame a b s t
-same_head a b s t line is_a is_b =
-    let words = is_a.words in
-    let other_words = is_b.words in
+same_values : (a b : Head) (words other_words : HeadWording) (line : List ℕ) → IsText a words line
+    → IsText b other_words line → a ≡ b
+same_values a b words other_words line is_a is_b =
     let in_a = is_a.in_range in
     let in_b = is_b.in_range in
-    let both : fields a words ≡ fields b other_words = sym (cuts-head a s line is_a) ∙ cuts-head b t line is_b in
+    let both : fields a words ≡ fields b other_words = sym (cuts-head a words line is_a) ∙ cuts-head b other_words line is_b in
     let kind_text : kind_byte a.id ∷ [] ≡ kind_byte b.id ∷ [] = cc both in
     let id_texts : id_text a.id ≡ id_text b.id = cc both in
     let id_is : a.id ≡ b.id = same_id a.id b.id in_a.id in_b.id kind_text id_texts in
@@ -168,18 +173,33 @@ same_head a b s t line is_a is_b =
     let dev_is : a.dev ≡ b.dev = cc both in
     let model_text : padded 30 a.model ≡ padded 30 b.model = cc both in
     let model_is : a.model ≡ b.model = same_text 30 a.model b.model in_a.model in_b.model model_text in
-    let sums : words.checksum ≡ other_words.checksum = cc both in
-    let payloads : worded_head a words ≡ worded_head b other_words = cc both in
     let same : head_of a.id a.cno a.name a.rep a.first a.last a.made a.dev_kind a.dev a.model
     ≡ head_of b.id b.cno b.name b.rep b.first b.last b.made b.dev_kind b.dev b.model =
     cc (id_is, cno_is, name_is, rep_is, first_is, last_is, made_is, dev_kind_is, dev_is, model_is) in
-    record {
-      head = same;
-      notes = same_notes s t
-          (same_crc s.crc t.crc words.checksum other_words.checksum _ _ is_a.noted.crc is_b.noted.crc sums payloads)
-          (is_a.noted.stamp ∙ made.odd ∙ sym is_b.noted.stamp)
-          (same_rep s.rep t.rep a.rep b.rep is_a.noted.rep is_b.noted.rep rep_is);
-    }
+    same
+
+-- and so are their notes
+same_head_notes : (a b : Head) (s t : Notes) (line : List ℕ) → IsLooseHeadOf a s line → IsLooseHeadOf b t line → s ≡ t
+same_head_notes a b s t line is_a is_b =
+    let words = is_a.words in
+    let other_words = is_b.words in
+    let both : fields a words ≡ fields b other_words =
+    sym (cuts-head a words line (text_of a s line is_a)) ∙ cuts-head b other_words line (text_of b t line is_b) in
+    let rep_is : a.rep ≡ b.rep = cc both in
+    let made_text : words.made ≡ other_words.made = cc both in
+    let made = same_stamps a.made b.made words.made_odd other_words.made_odd words.made other_words.made is_a.worded.made is_b.worded.made made_text in
+    let sums : words.checksum ≡ other_words.checksum = cc both in
+    let payloads : worded_head a words ≡ worded_head b other_words = cc both in
+    same_notes s t (same_crc s.crc t.crc words.checksum other_words.checksum _ _ is_a.noted.crc is_b.noted.crc sums payloads)
+    (is_a.noted.stamp ∙ made.odd ∙ sym is_b.noted.stamp)
+    (same_rep s.rep t.rep a.rep b.rep is_a.noted.rep is_b.noted.rep rep_is)
+
+-- the line of a head has no bad field
+not_refused : {P : Type 0} (head : Head) (words : HeadWording) (line : List ℕ) (field : ℕ) → IsText head words line
+    → (IsHeadLaidOut line → IsFirstBadOfHead line field) → P
+not_refused head words line field is first =
+    absurd (good_not_bad_by head_width IsHeadField 0 head_layout line field (head_good head words line is)
+    (first (head_laid_out head words line is)))
 
 abbrev head_read : Head → Notes → ReadHead
 head_read head notes = record { head = head; notes = notes }
@@ -190,11 +210,35 @@ pub only_head_answer : (line : List ℕ) (result : Result ReadHead BadLine)
     → (IsHeadLaidOut line → IfErr result (λ bad. IsFirstBadOfHead line bad.field))
     → (head : Head) (notes : Notes) → IsLooseHeadOf head notes line → result ≡ Ok (record { head = head; notes = notes })
 only_head_answer line (Ok read) found first head notes is =
-    let same = same_head read.head head read.notes notes line found is in
-    let head_is = same.head in
-    let notes_is = same.notes in
+    let head_is = same_values read.head head found.words is.words line (text_of read.head read.notes line found) (text_of head notes line is) in
+    let notes_is = same_head_notes read.head head read.notes notes line found is in
     let same_read : head_read read.head read.notes ≡ head_read head notes = cc (head_is, notes_is) in
     ap Ok same_read
 only_head_answer line (Err bad) found first head notes is =
-    absurd (good_not_bad_by head_width IsHeadField 0 head_layout line bad.field (head_good head notes line is)
-    (first (head_laid_out head notes line is)))
+    not_refused head is.words line bad.field (text_of head notes line is) first
+
+own_text : (head : Head) (line : List ℕ) → IsLooseHead head → line ≡ head_text head → IsText head (own_words head) line
+own_text head line in_range is =
+    record { in_range = in_range; worded = own_worded head in_range; written = is ∙ own_written head }
+
+abbrev quiet_notes : Bool → Notes
+quiet_notes rep = record { crc = false; stamp = false; rep = rep }
+
+-- and of a head's own line that head, with no note but of the recorder's number
+pub printed_head_answer : (line : List ℕ) (result : Result ReadHead BadLine)
+    → IfOk result (λ read. IsLooseHeadOf read.head read.notes line)
+    → (IsHeadLaidOut line → IfErr result (λ bad. IsFirstBadOfHead line bad.field))
+    → (head : Head) → IsLooseHead head → HasHeadText head → line ≡ head_text head → IsPrintedHead head result
+printed_head_answer line (Ok read) found first head in_range has_text is =
+    let text = own_text head line in_range is in
+    let head_is : read.head ≡ head =
+    same_values read.head head found.words (own_words head) line (text_of read.head read.notes line found) text in
+    let rep : IsTrue read.notes.rep ↔ (All IsDigitByte head.rep → ⊥) =
+    subst (λ (h : Head). IsTrue read.notes.rep ↔ (All IsDigitByte h.rep → ⊥)) head_is found.noted.rep in
+    let printed : IsLooseHeadOf head (quiet_notes read.notes.rep) line =
+    subst (IsLooseHeadOf head (quiet_notes read.notes.rep)) (sym is)
+    (printed_head_is_loose head (quiet_notes read.notes.rep) in_range has_text refl refl rep) in
+    let notes_is = same_head_notes read.head head read.notes (quiet_notes read.notes.rep) line found printed in
+    (head_is, ap (λ (notes : Notes). notes.crc) notes_is, ap (λ (notes : Notes). notes.stamp) notes_is, rep)
+printed_head_answer line (Err bad) found first head in_range has_text is =
+    not_refused head (own_words head) line bad.field (own_text head line in_range is) first

@@ -12,7 +12,7 @@ use Rattle.afd_records.specs.File.{head_payload_text, head_text, HasHeadText}
 use Rattle.afd_records.specs.Record.{IsWrittenEvent, payload_text}
 use Rattle.afd_records.specs.Line.{IsLowerHex, HasHash, IsLineOf, hash_bytes}
 use Rattle.afd_records.specs.Lenient.{IsStampText, IsLooseEvent, IsHexDigit, HasLooseHash, IsLooseLineOf}
-use Rattle.afd_records.specs.LenientHead.{IsLooseHead, HeadWording, worded_head, IsLooseHeadOf}
+use Rattle.afd_records.specs.LenientHead.{IsLooseHead, HeadWording, IsHeadWorded, worded_head, IsLooseHeadOf}
 use Rattle.afd_records.specs.Reading.{no_notes}
 use Rattle.afd_records.specs.declared.error.Notes.{Notes}
 use Rattle.afd_records.specs.declared.header.Head.{Head}
@@ -126,7 +126,7 @@ strict_is_loose nsr (Clocking marked cpf recorded collector offline) hash line i
 }
 
 -- the words of a head's own line
-abbrev own_words : Head → HeadWording
+abbrev pub own_words : Head → HeadWording
 own_words head = record {
   cno = numeral 14 head.cno;
   made = moment_text head.made;
@@ -141,20 +141,29 @@ head_payload_text-parts head = refl
 quiet : (b : Bool) (P : Type 0) → b ≡ false → (P → ⊥) → IsTrue b ↔ P
 quiet b P off none = (λ yes. absurd (true≢false (sym yes ∙ off)), λ p. absurd (none p))
 
+-- those are such as the head allows
+pub own_worded : (head : Head) → IsLooseHead head → IsHeadWorded head (own_words head)
+own_worded head in_range = record { cno = inl refl; made = strict_stamp head.made in_range.made; checksum = refl }
+
+pub own_written : (head : Head)
+    → head_text head ≡ concat (worded_head head (own_words head) ++ crc_text (head_payload_text head) ∷ [])
+own_written head =
+    let checksum = crc_text (head_payload_text head) in
+    let fields = worded_head head (own_words head) in
+    ap (λ (payload : List ℕ). payload ++ checksum) (head_payload_text-parts head)
+    ∙ sym (concat-append fields (checksum ∷ []) ∙ ap (λ (last : List ℕ). concat fields ++ last) (append-nil checksum))
+
 -- and the line of a head is one of that head
 pub printed_head_is_loose : (head : Head) (notes : Notes) → IsLooseHead head → HasHeadText head → notes.crc ≡ false
     → notes.stamp ≡ false → (IsTrue notes.rep ↔ (All IsDigitByte head.rep → ⊥)) → IsLooseHeadOf head notes (head_text head)
-printed_head_is_loose head notes in_range has_text crc stamp rep =
-    let words = own_words head in
-    record {
-      in_range = in_range;
-      words = words;
-      worded = record { cno = inl refl; made = strict_stamp head.made in_range.made; checksum = refl };
-      noted = record {
-        crc = quiet notes.crc _ crc (λ other. other (ap crc_text (head_payload_text-parts head)));
-        stamp = stamp;
-        rep = rep;
-      };
-      written = ap (λ (payload : List ℕ). payload ++ crc_text (head_payload_text head)) (head_payload_text-parts head)
-          ∙ sym (concat-append (worded_head head words) (words.checksum ∷ []) ∙ ap (λ (last : List ℕ). concat (worded_head head words) ++ last) (append-nil words.checksum));
-    }
+printed_head_is_loose head notes in_range has_text crc stamp rep = record {
+  in_range = in_range;
+  words = own_words head;
+  worded = own_worded head in_range;
+  noted = record {
+    crc = quiet notes.crc _ crc (λ other. other (ap crc_text (head_payload_text-parts head)));
+    stamp = stamp;
+    rep = rep;
+  };
+  written = own_written head;
+}

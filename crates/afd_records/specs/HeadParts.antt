@@ -1,4 +1,5 @@
--- The first part of a head, as its reader takes it: whose records they are, and the recorder's number.
+-- The first part of a head, as its reader takes it, which is this project's own: whose records they are, and the
+-- recorder's number.
 use Rattle.std.specs.Prelude.{◌≡◌, ℕ, List, ◌∷◌, take, drop, codes}
 use Rattle.rep_fields.specs.Latin.{padded, IsText}
 use Rattle.rep_fields.specs.Identity.{IsRepNumber}

@@ -127,7 +127,7 @@ HasOtherChecksum nsr (Event at code) words = ⊥
 HasOtherChecksum nsr (Clocking marked cpf recorded collector offline) words = ⊥
 HasOtherChecksum nsr body words = words.checksum ≢ crc_text (concat (worded_payload nsr body words))
 
--- the notes are of just what a strict reader would not pass over
+-- the notes tell of another checksum and of a stamp that isn't the strict text, and of nothing else
 pub record IsNoted (nsr : ℕ) (body : Body) (words : Wording) (notes : Notes) : Type 0 where
   pub crc : IsTrue notes.crc ↔ HasOtherChecksum nsr body words
   pub stamp : notes.stamp ≡ has_odd_stamp body words

@@ -1,6 +1,6 @@
 -- The head of an AFD as a reader takes it: type 1 of Portaria MTP 671/2021, annex V (layout 003), with the allowances of
 -- records' lines, a recorder's number of other characters than digits, and a maker's id of digits or spaces.
-use Rattle.std.specs.Prelude.{◌≡◌, ◌≢◌, ℕ, ◌⊎◌, ◌↔◌, Bool, IsTrue, List, [], ◌∷◌, ◌++◌, length, slice_index, All, codes}
+use Rattle.std.specs.Prelude.{◌≡◌, ◌≢◌, ℕ, ◌⊎◌, ◌↔◌, Bool, false, IsTrue, Result, Ok, Err, List, [], ◌∷◌, ◌++◌, length, slice_index, All, codes}
 use Rattle.std.specs.List.{concat}
 use Rattle.rep_fields.specs.Digits.{numeral, IsDigitByte}
 use Rattle.rep_fields.specs.Latin.{padded, spaces, IsText}
@@ -12,8 +12,10 @@ use Rattle.afd_records.specs.Checksum.{crc_text}
 use Rattle.afd_records.specs.Record.{IsCno}
 use Rattle.afd_records.specs.Fields.{FieldKind, TypeField, StampField, EmployerKindField, EmployerIdField, CnoField, TextField, ChecksumField, Spells, width_of}
 use Rattle.afd_records.specs.Lenient.{IsStampText, IsCnoText, IsLooseField, IsFirstBadBy}
+use Rattle.afd_records.specs.declared.error.BadLine.{BadLine}
 use Rattle.afd_records.specs.declared.error.Notes.{Notes}
 use Rattle.afd_records.specs.declared.header.Head.{Head}
+use Rattle.afd_records.specs.declared.header_reading.ReadHead.{ReadHead}
 
 -- the kinds of field of the head
 pub data HeadField : Type 0 where
@@ -106,7 +108,8 @@ worded_head head words =
     ∷ head.rep ∷ day_text head.first ∷ day_text head.last ∷ words.made ∷ codes "003" ∷ numeral 1 head.dev_kind
     ∷ head.dev ∷ padded 30 head.model ∷ []
 
--- the notes are of just what a reader passed over
+-- the notes tell of another checksum, of a stamp that isn't the strict text, and of a recorder's number that isn't all
+-- digits
 pub record IsHeadNoted (head : Head) (words : HeadWording) (notes : Notes) : Type 0 where
   pub crc : IsTrue notes.crc ↔ (words.checksum ≢ crc_text (concat (worded_head head words)))
   pub stamp : notes.stamp ≡ words.made_odd
@@ -119,3 +122,10 @@ pub record IsLooseHeadOf (head : Head) (notes : Notes) (line : List ℕ) : Type 
   pub worded : IsHeadWorded head words
   pub noted : IsHeadNoted head words notes
   pub written : line ≡ concat (worded_head head words ++ words.checksum ∷ [])
+
+-- the head was read again, with no note but of its recorder's number
+abbrev pub IsPrintedHead : Head → Result ReadHead BadLine → Type 0
+IsPrintedHead head (Ok found) =
+    (found.head ≡ head) × (found.notes.crc ≡ false) × (found.notes.stamp ≡ false)
+    × (IsTrue found.notes.rep ↔ (All IsDigitByte head.rep → ⊥))
+IsPrintedHead head (Err bad) = ⊥

@@ -1,7 +1,8 @@
 ghost use Rattle.std.specs.Prelude.{◌≡◌, ◌↔◌, length, IfOk, IfErr, IsTrue, All};
 ghost use Rattle.rep_fields.specs.Decoding.{Decodes};
 ghost use Rattle.rep_fields.specs.Digits.{numeral, IsDigitByte};
-ghost use Rattle.afd_records.specs.LenientHead.{IsHeadLaidOut, IsLooseHeadOf, IsFirstBadOfHead, IsMakerKind, IsMaker};
+ghost use Rattle.afd_records.specs.File.{head_text, HasHeadText};
+ghost use Rattle.afd_records.specs.LenientHead.{IsHeadLaidOut, IsLooseHead, IsLooseHeadOf, IsPrintedHead, IsFirstBadOfHead, IsMakerKind, IsMaker};
 ghost use Rattle.afd_records.specs.HeadParts.{IsOwnerIn};
 ghost use Rattle.afd_records.specs.declared.error.Notes.{Notes as TheNotes};
 ghost use Rattle.afd_records.specs.declared.header.Head.{Head as TheHead};
@@ -29,15 +30,15 @@ const BLANK_MAKER: &[u8; 14] = b"              ";
 /// A head that was read.
 #[derive(Clone, Copy, Debug, PartialEq, Eq)]
 pub struct ReadHead {
-    /// The head. The maker's id may also be 14 spaces.
+    /// The head. Where it names no maker, `dev` is 14 spaces, and `print_head` doesn't take it.
     pub head: Head,
-    /// What was passed over in the line.
+    /// What is told of the line beside its values.
     pub notes: Notes,
 }
 
 /// Reads the head of an AFD, its first line, without its end. It passes over any seconds and the offset `-0000` in the
 /// stamp, any checksum, and a recorder's number that isn't all digits, each with a note; and without a note a blank CNO
-/// or CAEPF and a blank maker's id.
+/// or CAEPF and a blank maker's id. A line of `print_head` has its own head, and no note but of the recorder's number.
 ///
 /// # Errors
 ///
@@ -47,6 +48,8 @@ pub fn read_head(line: &[u8]) -> Result<ReadHead, BadLine>
     ensures found { IfOk result (λ read. IsLooseHeadOf read.head read.notes line.now) }
     ensures only { (head : TheHead) → (notes : TheNotes) → IsLooseHeadOf head notes line.now
         → result ≡ Ok (record { head = head; notes = notes }) }
+    ensures printed { (head : TheHead) → IsLooseHead head → HasHeadText head → line.now ≡ head_text head
+        → IsPrintedHead head result }
     ensures unknown { (IsHeadLaidOut line.now → ⊥) → result ≡ Err (record { field = 0 }) }
     ensures first { IsHeadLaidOut line.now → IfErr result (λ bad. IsFirstBadOfHead line.now bad.field) }
 {

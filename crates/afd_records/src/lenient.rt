@@ -1,6 +1,8 @@
 ghost use Rattle.std.specs.Prelude.{◌≡◌, ◌∷◌, ℕ, ◌≤◌, Option, List, length, take, drop, IfOk, IfErr};
 ghost use Rattle.afd_records.specs.Fields.{Layout, IsLaidOut, employer_layout, adjust_layout, worker_layout, event_layout, clocking_layout};
 ghost use Rattle.afd_records.specs.Lenient.{IsLooseLineOf, IsLooselyReadFrom, IsFirstLooseBad};
+ghost use Rattle.afd_records.specs.Line.{IsLineOf};
+ghost use Rattle.afd_records.specs.Reading.{no_notes};
 ghost use Rattle.afd_records.specs.declared.error.Notes.{Notes as TheNotes};
 ghost use Rattle.afd_records.specs.declared.record.Body.{Body as TheBody};
 
@@ -18,7 +20,8 @@ use crate::record::Body;
 
 /// Reads the line of a record, without its end, as [`read`](crate::read) does, and passes over more: any seconds and
 /// the offset `-0000` in a stamp, and any checksum, each with a note; and without a note a blank CNO or CAEPF, the
-/// event codes 01 to 08, and a hash of digits of either case, which is answered as it stands.
+/// event codes 01 to 08, and a hash of digits of either case, which is answered as it stands. A line of `print` has its
+/// own values and no note.
 ///
 /// # Errors
 ///
@@ -29,6 +32,8 @@ pub fn read_loose(line: &[u8]) -> Result<ReadLine, BadLine>
     ensures only { (nsr : ℕ) → (body : TheBody) → (hash : Option (List ℕ)) → (notes : TheNotes)
         → IsLooseLineOf nsr body hash notes line.now
         → result ≡ Ok (record { nsr = nsr; body = body; hash = hash; notes = notes }) }
+    ensures printed { (nsr : ℕ) → (body : TheBody) → (hash : Option (List ℕ)) → IsLineOf nsr body hash line.now
+        → result ≡ Ok (record { nsr = nsr; body = body; hash = hash; notes = no_notes }) }
     ensures unknown { ((layout : Layout) → IsLaidOut layout line.now → ⊥) → result ≡ Err (record { field = 0 }) }
     ensures first { (layout : Layout) → IsLaidOut layout line.now
         → IfErr result (λ bad. IsFirstLooseBad layout line.now bad.field) }

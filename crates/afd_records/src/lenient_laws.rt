@@ -10,6 +10,8 @@ ghost use Rattle.afd_records.specs.declared.error.Notes.{Notes as TheNotes};
 ghost use Rattle.afd_records.specs.declared.header.Head.{Head as TheHead};
 ghost use Rattle.afd_records.specs.declared.record.Body.{Body as TheBody};
 
+use crate::header::Head;
+
 /// A line that a strict reader takes is one of the lenient grammar, with the same values and no note, and the line of a
 /// head is one of that head, with no note but of the recorder's number.
 pub fn what_is_written_reads_leniently()
@@ -19,3 +21,16 @@ pub fn what_is_written_reads_leniently()
         → notes.crc ≡ false → notes.stamp ≡ false → (IsTrue notes.rep ↔ (All IsDigitByte head.rep → ⊥))
         → IsLooseHeadOf head notes (head_text head) }
 {}
+
+/// A head that has a text is in its range, since its types keep their parts so.
+pub fn printed_heads_are_in_range(head: &Head)
+    requires { HasHeadText head.now }
+    ensures { IsLooseHead head.now }
+{
+    let _ = head.name.bytes();
+    let _ = head.rep.bytes();
+    let _ = head.first.write();
+    let _ = head.last.write();
+    let _ = head.made.write();
+    let _ = head.model.bytes();
+}

@@ -113,7 +113,7 @@ fn each_allowance_has_its_note_and_each_other_change_its_field(rt: HostRuntime) 
     let adjust = adjust_text.as_slice();
     let event = event_text.as_slice();
     let clocking = clocking_text.as_slice();
-    let cases: [(&[u8], usize, &[u8], Result<Notes, BadLine>, &str); 38] = [
+    let cases: [(&[u8], usize, &[u8], Result<Notes, BadLine>, &str); 47] = [
         (
             employer,
             0,
@@ -235,6 +235,57 @@ fn each_allowance_has_its_note_and_each_other_change_its_field(rt: HostRuntime) 
             b"06",
             Err(BadLine { field: 6 }),
             "collector 06",
+        ),
+        (
+            employer,
+            48,
+            b"200052998224725",
+            Ok(CRC),
+            "a person by a CPF",
+        ),
+        (employer, 48, b"100000000000000", Ok(CRC), "a CNPJ of zeros"),
+        (
+            employer,
+            48,
+            b"200000000000000",
+            Err(BadLine { field: 6 }),
+            "a CPF of equal digits",
+        ),
+        (
+            employer,
+            34,
+            b"00011111111111",
+            Err(BadLine { field: 4 }),
+            "a CPF of equal digits",
+        ),
+        (
+            employer,
+            77,
+            b"\x9f",
+            Err(BadLine { field: 8 }),
+            "0x9F in the name",
+        ),
+        (employer, 77, b"\xa0", Ok(CRC), "0xA0 in the name"),
+        (
+            employer,
+            27,
+            b"30-0000",
+            Ok(CRC_AND_STAMP),
+            "seconds and the offset -0000",
+        ),
+        (
+            employer,
+            29,
+            b"+1401",
+            Err(BadLine { field: 3 }),
+            "an offset past 14 hours",
+        ),
+        (
+            worker,
+            99,
+            b"    ",
+            Ok(Notes::NONE),
+            "no further identification",
         ),
     ];
     for (line, at, text, expected, what) in &cases {
@@ -378,7 +429,7 @@ fn what_is_passed_over_changes_no_value(rt: HostRuntime) {
 fn heads_are_read_with_their_notes(rt: HostRuntime) {
     let text = head_line(rt.alloc()).expect(&rt, "memory");
     let head = text.as_slice();
-    let cases: [(usize, &[u8], Result<Notes, BadLine>, &str); 25] = [
+    let cases: [(usize, &[u8], Result<Notes, BadLine>, &str); 31] = [
         (0, b"0", Ok(Notes::NONE), "the strict line"),
         (298, b"    ", Ok(CRC), "a blank checksum"),
         (0, b"000000010", Err(BadLine { field: 1 }), "no zeros"),
@@ -429,6 +480,27 @@ fn heads_are_read_with_their_notes(rt: HostRuntime) {
             Err(BadLine { field: 14 }),
             "0x80 in the model",
         ),
+        (10, b"200052998224725", Ok(CRC), "a person by a CPF"),
+        (
+            205,
+            b"x",
+            Ok(CRC_AND_REP),
+            "one letter in the recorder's number",
+        ),
+        (253, b"0", Err(BadLine { field: 12 }), "a maker of kind 0"),
+        (
+            253,
+            b" ",
+            Err(BadLine { field: 12 }),
+            "a blank kind of maker",
+        ),
+        (
+            267,
+            b" ",
+            Err(BadLine { field: 13 }),
+            "a space behind thirteen digits",
+        ),
+        (216, b"2024-03-01", Ok(CRC), "the last day before the first"),
     ];
     for (at, text, expected, what) in &cases {
         assert!(rt; head_notes(head, *at, text) == *expected, "{what}");

@@ -29,7 +29,7 @@ pub struct ReadLine {
     pub body: Body,
     /// A clocking's hash, of 64 hexadecimal digits; other records have none.
     pub hash: Option<[u8; 64]>,
-    /// What was passed over in the line.
+    /// What is told of the line beside its values.
     pub notes: Notes,
 }
 

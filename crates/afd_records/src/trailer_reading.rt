@@ -1,4 +1,4 @@
-ghost use Rattle.std.specs.Prelude.{◌≡◌, length};
+ghost use Rattle.std.specs.Prelude.{◌≡◌, ℕ, List, length};
 ghost use Rattle.rep_fields.specs.Decoding.{Decodes};
 ghost use Rattle.rep_fields.specs.Digits.{FitsDigits, numeral};
 ghost use Rattle.afd_records.specs.File.{trailer_text, HasTrailerText};
@@ -12,9 +12,19 @@ const NINES: &[u8; 9] = b"999999999";
 
 const TYPE: u8 = b'9';
 
-/// The trailer that a line, without its end, is: just the lines that `print_trailer` gives. `None` exactly where the
-/// line is none of them.
+/// The trailer that a line, without its end, is: just the lines that `print_trailer` gives, each with its counts. `None`
+/// exactly where the line is none of them.
 pub fn read_trailer(line: &[u8]) -> Option<Trailer>
+    ensures found { Decodes (λ trailer. HasTrailerText trailer.counts) (λ trailer. trailer_text trailer.counts)
+        line.now result }
+    ensures only { (counts : List ℕ) → HasTrailerText counts → line.now ≡ trailer_text counts
+        → result ≡ Some (record { counts = counts }) }
+{
+    read_counts(line)
+}
+
+// Reads the counts one by one.
+fn read_counts(line: &[u8]) -> Option<Trailer>
     ensures { Decodes (λ trailer. HasTrailerText trailer.counts) (λ trailer. trailer_text trailer.counts)
         line.now result }
 {
