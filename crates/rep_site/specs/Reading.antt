@@ -1,5 +1,5 @@
 -- A site file, `site.toml`: a TOML document whose keys say a site. The format is this project's own.
-use Rattle.std.specs.Prelude.{◌≡◌, ◌≤◌, ℕ, List, length}
+use Rattle.std.specs.Prelude.{◌≡◌, ◌≤◌, ℕ, ℤ, List, length}
 use Rattle.rep_fields.specs.Digits.{numeral, FitsDigits}
 use Rattle.rep_fields.specs.declared.employer.EmployerId.{EmployerId}
 use Rattle.toml.specs.Data.{Members}
@@ -28,20 +28,53 @@ HasCno members key cno = (text : List ℕ) × IsCnoText cno text × HasText memb
 abbrev pub HasRegistration : Members → List ℕ → List ℕ → Type 0
 HasRegistration = HasFixed IsRegistration (λ number. number)
 
+-- what each key says, in the order in which the keys are looked at: a key that has a default may be missing
+
+-- an id and its kind
+abbrev pub SaysEmployer : Members → EmployerId → Type 0
+SaysEmployer members id =
+    HasKind members (key_text EmployerKind) (kind_number id) × HasId members (key_text Employer) id
+
+abbrev pub SaysCno : Members → ℕ → Type 0
+SaysCno members cno = HasOr 0 HasCno members (key_text Cno) cno
+
+abbrev pub SaysName : Members → List ℕ → Type 0
+SaysName members name = HasSome 150 members (key_text Name) name
+
+abbrev pub SaysPlace : Members → List ℕ → Type 0
+SaysPlace members place = HasLatin 100 members (key_text Place) place
+
+abbrev pub SaysResponsible : Members → ℕ → Type 0
+SaysResponsible members cpf = HasCpf members (key_text Responsible) cpf
+
+abbrev pub SaysRep : Members → List ℕ → Type 0
+SaysRep members number = HasRegistration members (key_text Rep) number
+
+abbrev pub SaysDeveloper : Members → EmployerId → Type 0
+SaysDeveloper members id =
+    HasKind members (key_text DeveloperKind) (kind_number id) × HasId members (key_text Developer) id
+
+abbrev pub SaysOffset : Members → ℤ → Type 0
+SaysOffset members offset = HasOffset members (key_text Offset) offset
+
+abbrev pub SaysLastNsr : Members → ℕ → Type 0
+SaysLastNsr members last = HasOr greatest_nsr (HasNumber 1 greatest_nsr) members (key_text LastNsr) last
+
+abbrev pub SaysRestarts : Members → ℕ → Type 0
+SaysRestarts members count = HasOr 0 (HasNumber 0 most_restarts) members (key_text Restarts) count
+
 -- the members of the document say the site, and there are no others
 pub record IsSiteOf (members : Members) (site : Site) : Type 0 where
-  pub employer_kind : HasKind members (key_text EmployerKind) (kind_number site.employer)
-  pub employer : HasId members (key_text Employer) site.employer
-  pub cno : HasOr 0 HasCno members (key_text Cno) site.cno
-  pub name : HasSome 150 members (key_text Name) site.name
-  pub place : HasLatin 100 members (key_text Place) site.place
-  pub responsible : HasCpf members (key_text Responsible) site.responsible
-  pub rep : HasRegistration members (key_text Rep) site.rep
-  pub developer_kind : HasKind members (key_text DeveloperKind) (kind_number site.developer)
-  pub developer : HasId members (key_text Developer) site.developer
-  pub offset : HasOffset members (key_text Offset) site.offset
-  pub last_nsr : HasOr greatest_nsr (HasNumber 1 greatest_nsr) members (key_text LastNsr) site.last_nsr
-  pub restarts : HasOr 0 (HasNumber 0 most_restarts) members (key_text Restarts) site.restarts
+  pub employer : SaysEmployer members site.employer
+  pub cno : SaysCno members site.cno
+  pub name : SaysName members site.name
+  pub place : SaysPlace members site.place
+  pub responsible : SaysResponsible members site.responsible
+  pub rep : SaysRep members site.rep
+  pub developer : SaysDeveloper members site.developer
+  pub offset : SaysOffset members site.offset
+  pub last_nsr : SaysLastNsr members site.last_nsr
+  pub restarts : SaysRestarts members site.restarts
   pub known : HasOnly site_key_texts members
 
 -- the text is a TOML document that says the site
@@ -50,26 +83,20 @@ pub record IsSiteText (text : List ℕ) (site : Site) : Type 0 where
   pub toml : IsTomlOf text members
   pub said : IsSiteOf members site
 
--- the value at the key is there, or has a default, and is on the key's grammar; an id is looked at with its kind. Of
--- `Unknown`: each key is a known one
+-- the key says something; an id is looked at with its kind. Of `Unknown`: each key is a known one
 abbrev pub IsSound : Members → SiteKey → Type 0
 IsSound members EmployerKind = (kind : ℕ) × HasKind members (key_text EmployerKind) kind
-IsSound members Employer =
-    (id : EmployerId) × HasKind members (key_text EmployerKind) (kind_number id)
-    × HasId members (key_text Employer) id
-IsSound members Cno = (cno : ℕ) × HasOr 0 HasCno members (key_text Cno) cno
-IsSound members Name = (name : List ℕ) × HasSome 150 members (key_text Name) name
-IsSound members Place = (place : List ℕ) × HasLatin 100 members (key_text Place) place
-IsSound members Responsible = (cpf : ℕ) × HasCpf members (key_text Responsible) cpf
-IsSound members Rep = (number : List ℕ) × HasRegistration members (key_text Rep) number
+IsSound members Employer = (id : EmployerId) × SaysEmployer members id
+IsSound members Cno = (cno : ℕ) × SaysCno members cno
+IsSound members Name = (name : List ℕ) × SaysName members name
+IsSound members Place = (place : List ℕ) × SaysPlace members place
+IsSound members Responsible = (cpf : ℕ) × SaysResponsible members cpf
+IsSound members Rep = (number : List ℕ) × SaysRep members number
 IsSound members DeveloperKind = (kind : ℕ) × HasKind members (key_text DeveloperKind) kind
-IsSound members Developer =
-    (id : EmployerId) × HasKind members (key_text DeveloperKind) (kind_number id)
-    × HasId members (key_text Developer) id
-IsSound members Offset = (offset : _) × HasOffset members (key_text Offset) offset
-IsSound members LastNsr =
-    (last : ℕ) × HasOr greatest_nsr (HasNumber 1 greatest_nsr) members (key_text LastNsr) last
-IsSound members Restarts = (count : ℕ) × HasOr 0 (HasNumber 0 most_restarts) members (key_text Restarts) count
+IsSound members Developer = (id : EmployerId) × SaysDeveloper members id
+IsSound members Offset = (offset : ℤ) × SaysOffset members offset
+IsSound members LastNsr = (last : ℕ) × SaysLastNsr members last
+IsSound members Restarts = (count : ℕ) × SaysRestarts members count
 IsSound members Unknown = HasOnly site_key_texts members
 
 -- the first key that is off

@@ -8,7 +8,7 @@ use Rattle.rep_fields.specs.Identity.{IsCpf}
 use Rattle.rep_fields.specs.Employer.{IsEmployerId}
 use Rattle.rep_site.specs.declared.site.Site.{Site}
 
--- the greatest number of a record
+-- the greatest number of a record: nine digits, as on the lines of records
 abbrev pub greatest_nsr : ℕ
 greatest_nsr = 999999999
 
@@ -32,6 +32,6 @@ pub record IsSite (site : Site) : Type 0 where
   pub rep : IsRegistration site.rep
   pub developer : IsEmployerId site.developer
   pub offset : IsOffset site.offset
-  pub numbers : 1 ≤ site.last_nsr
+  pub some_nsr : 1 ≤ site.last_nsr
   pub last_nsr : site.last_nsr ≤ greatest_nsr
   pub restarts : site.restarts ≤ most_restarts

@@ -4,6 +4,46 @@ ghost use Rattle.rep_site.specs.Key.{key_text};
 
 use std::fmt;
 
+pub(crate) const EMPLOYER_KIND: &str = "employer_kind";
+
+pub(crate) const EMPLOYER: &str = "employer";
+
+pub(crate) const CNO: &str = "cno";
+
+pub(crate) const NAME: &str = "name";
+
+pub(crate) const PLACE: &str = "place";
+
+pub(crate) const RESPONSIBLE: &str = "responsible";
+
+pub(crate) const REP: &str = "rep";
+
+pub(crate) const DEVELOPER_KIND: &str = "developer_kind";
+
+pub(crate) const DEVELOPER: &str = "developer";
+
+pub(crate) const OFFSET: &str = "offset";
+
+pub(crate) const LAST_NSR: &str = "last_nsr";
+
+pub(crate) const RESTARTS: &str = "restarts";
+
+/// The keys that a site file may have.
+pub(crate) const KEYS: [&str; 12] = [
+    EMPLOYER_KIND,
+    EMPLOYER,
+    CNO,
+    NAME,
+    PLACE,
+    RESPONSIBLE,
+    REP,
+    DEVELOPER_KIND,
+    DEVELOPER,
+    OFFSET,
+    LAST_NSR,
+    RESTARTS,
+];
+
 /// A key of a site file, in the order in which they are looked at.
 #[derive(Clone, Copy, Debug, PartialEq, Eq)]
 pub enum SiteKey {
@@ -11,7 +51,7 @@ pub enum SiteKey {
     EmployerKind,
     /// `employer`: the id of that kind, 14 digits of a CNPJ or 11 of a CPF.
     Employer,
-    /// `cno`: the CNO or CAEPF, up to 14 digits; empty by default.
+    /// `cno`: the CNO or CAEPF, up to 14 digits alone, no spaces; empty by default.
     Cno,
     /// `name`: the employer's name, 1 to 150 characters.
     Name,
@@ -41,18 +81,18 @@ impl SiteKey {
         ensures { result.now ≡ key_text self.now }
     {
         match self {
-            SiteKey::EmployerKind => "employer_kind",
-            SiteKey::Employer => "employer",
-            SiteKey::Cno => "cno",
-            SiteKey::Name => "name",
-            SiteKey::Place => "place",
-            SiteKey::Responsible => "responsible",
-            SiteKey::Rep => "rep",
-            SiteKey::DeveloperKind => "developer_kind",
-            SiteKey::Developer => "developer",
-            SiteKey::Offset => "offset",
-            SiteKey::LastNsr => "last_nsr",
-            SiteKey::Restarts => "restarts",
+            SiteKey::EmployerKind => EMPLOYER_KIND,
+            SiteKey::Employer => EMPLOYER,
+            SiteKey::Cno => CNO,
+            SiteKey::Name => NAME,
+            SiteKey::Place => PLACE,
+            SiteKey::Responsible => RESPONSIBLE,
+            SiteKey::Rep => REP,
+            SiteKey::DeveloperKind => DEVELOPER_KIND,
+            SiteKey::Developer => DEVELOPER,
+            SiteKey::Offset => OFFSET,
+            SiteKey::LastNsr => LAST_NSR,
+            SiteKey::Restarts => RESTARTS,
             SiteKey::Unknown => "?",
         }
     }

@@ -1,5 +1,5 @@
 //! A site from the keys of a TOML table.
-ghost use Rattle.std.specs.Prelude.{IfOk, IfErr, codes};
+ghost use Rattle.std.specs.Prelude.{IfOk, IfErr};
 ghost use Rattle.toml.specs.View.{table_view};
 ghost use Rattle.toml_fields.specs.Answering.{Finds, IsFirstOff};
 ghost use Rattle.toml_fields.specs.Table.{HasOr};
@@ -7,7 +7,10 @@ ghost use Rattle.rep_site.specs.Key.{employing_keys, recording_keys};
 ghost use Rattle.rep_site.specs.Reading.{IsSiteOf, IsSound, IsFirstBadKey, HasCno, HasRegistration};
 ghost use Rattle.rep_site.specs.Parts.{IsEmployingOf, IsRecordingOf};
 
-use crate::key::SiteKey;
+use crate::key::{
+    CNO, DEVELOPER, DEVELOPER_KIND, EMPLOYER, EMPLOYER_KIND, KEYS, LAST_NSR, NAME, OFFSET, PLACE,
+    REP, RESPONSIBLE, RESTARTS, SiteKey,
+};
 use crate::site::{GREATEST_NSR, Site};
 use rep_fields::{Cpf, EmployerId, RepNumber, Text, get_n};
 use toml::Table;
@@ -15,22 +18,6 @@ use toml_fields::{
     cpf_at, has_only, id_at, is_missing, number_at, number_or, offset_at, some_text_at, str_at,
     text_at,
 };
-
-// The keys that a site file may have.
-const KEYS: [&str; 12] = [
-    "employer_kind",
-    "employer",
-    "cno",
-    "name",
-    "place",
-    "responsible",
-    "rep",
-    "developer_kind",
-    "developer",
-    "offset",
-    "last_nsr",
-    "restarts",
-];
 
 // How many times a recorder that stopped may be started again.
 const MOST_RESTARTS: u32 = 0;
@@ -92,22 +79,22 @@ fn employing_of(table: &Table) -> Result<Employing, SiteKey>
     ensures ok { IfOk result (IsEmployingOf (table_view table.now)) }
     ensures off { IfErr result (IsFirstOff (IsSound (table_view table.now)) employing_keys) }
 {
-    let Some(kind) = number_at(table, "employer_kind", 1, 2) else {
+    let Some(kind) = number_at(table, EMPLOYER_KIND, 1, 2) else {
         return Err(SiteKey::EmployerKind);
     };
-    let Some(employer) = id_at(table, "employer", kind) else {
+    let Some(employer) = id_at(table, EMPLOYER, kind) else {
         return Err(SiteKey::Employer);
     };
     let Some(cno) = cno_or_none(table) else {
         return Err(SiteKey::Cno);
     };
-    let Some(name) = some_text_at(table, "name") else {
+    let Some(name) = some_text_at(table, NAME) else {
         return Err(SiteKey::Name);
     };
-    let Some(place) = text_at(table, "place") else {
+    let Some(place) = text_at(table, PLACE) else {
         return Err(SiteKey::Place);
     };
-    let Some(responsible) = cpf_at(table, "responsible") else {
+    let Some(responsible) = cpf_at(table, RESPONSIBLE) else {
         return Err(SiteKey::Responsible);
     };
     Ok(Employing {
@@ -126,19 +113,19 @@ fn recording_of(table: &Table) -> Result<Recording, SiteKey>
     let Some(rep) = registration(table) else {
         return Err(SiteKey::Rep);
     };
-    let Some(kind) = number_at(table, "developer_kind", 1, 2) else {
+    let Some(kind) = number_at(table, DEVELOPER_KIND, 1, 2) else {
         return Err(SiteKey::DeveloperKind);
     };
-    let Some(developer) = id_at(table, "developer", kind) else {
+    let Some(developer) = id_at(table, DEVELOPER, kind) else {
         return Err(SiteKey::Developer);
     };
-    let Some(offset) = offset_at(table, "offset") else {
+    let Some(offset) = offset_at(table, OFFSET) else {
         return Err(SiteKey::Offset);
     };
-    let Some(last_nsr) = number_or(table, "last_nsr", 1, GREATEST_NSR, GREATEST_NSR) else {
+    let Some(last_nsr) = number_or(table, LAST_NSR, 1, GREATEST_NSR, GREATEST_NSR) else {
         return Err(SiteKey::LastNsr);
     };
-    let Some(restarts) = number_or(table, "restarts", 0, MOST_RESTARTS, 0) else {
+    let Some(restarts) = number_or(table, RESTARTS, 0, MOST_RESTARTS, 0) else {
         return Err(SiteKey::Restarts);
     };
     Ok(Recording {
@@ -152,12 +139,12 @@ fn recording_of(table: &Table) -> Result<Recording, SiteKey>
 
 // The number of the CNO or CAEPF: 0 where the key is missing or has no digit.
 fn cno_or_none(table: &Table) -> Option<u64>
-    ensures { Finds (HasOr 0 HasCno (table_view table.now) (codes "cno")) result }
+    ensures { Finds (HasOr 0 HasCno (table_view table.now) CNO.now) result }
 {
-    if is_missing(table, "cno") {
+    if is_missing(table, CNO) {
         return Some(0);
     }
-    let Some(text) = str_at(table, "cno") else {
+    let Some(text) = str_at(table, CNO) else {
         return None;
     };
     if text.is_empty() {
@@ -171,9 +158,9 @@ fn cno_or_none(table: &Table) -> Option<u64>
 
 // The recorder's registration.
 fn registration(table: &Table) -> Option<RepNumber>
-    ensures { Finds (HasRegistration (table_view table.now) (codes "rep")) result }
+    ensures { Finds (HasRegistration (table_view table.now) REP.now) result }
 {
-    let Some(text) = str_at(table, "rep") else {
+    let Some(text) = str_at(table, REP) else {
         return None;
     };
     let Some(number) = RepNumber::read(text.as_bytes()) else {

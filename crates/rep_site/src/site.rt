@@ -12,7 +12,7 @@ use rep_fields::{Cpf, EmployerId, RepNumber, Text};
 use std::alloc::Global;
 use toml_fields::{TomlFault, read_table};
 
-/// The greatest number that a record may have.
+/// The greatest number that a record may have: nine digits, as on the lines of records.
 pub const GREATEST_NSR: u32 = 999_999_999;
 
 /// Whose recorder it is, and what it may do.
@@ -53,9 +53,13 @@ impl Site {
         ensures not_toml { result ≡ Err SiteFault.SiteText → IsNoToml text.now }
         ensures first_bad_key { (key : SiteKey) → result ≡ Err (SiteFault.SiteField key) → IsOffAt text.now key }
 
-        // A text that is a site is read as that site, but for memory.
+        // A text that is a site is read as that site, and another is refused so, but for memory.
         ensures found { (site : Site) → IsSiteText text.now site
             → (result ≡ Ok site) ⊎ (result ≡ Err SiteFault.OutOfMemory) }
+        ensures no_toml { IsNoToml text.now
+            → (result ≡ Err SiteFault.SiteText) ⊎ (result ≡ Err SiteFault.OutOfMemory) }
+        ensures refused { (key : SiteKey) → IsOffAt text.now key
+            → (result ≡ Err (SiteFault.SiteField key)) ⊎ (result ≡ Err SiteFault.OutOfMemory) }
     {
         let table = match read_table(alloc, text) {
             Ok(table) => table,

@@ -67,12 +67,12 @@ fn cpf_number(id: EmployerId) -> Option<u64> {
 fn a_full_site_has_each_of_its_values(rt: HostRuntime) -> Result<(), Fail> {
     let text =
         "restarts = 0\nlast_nsr = 5\noffset = \"+1400\"\ndeveloper = \"11144477735\"\ndeveloper_kind = 2\n\
-        rep = \"12345678901234567\"\nresponsible = \"11144477735\"\nplace = \"\"\nname = \"CAF\u{e9} | FILHOS  \"\n\
+        rep = \"12345678901234567\"\nresponsible = \"11144477735\"\nplace = \"\"\nname = \"CAF\u{e9} | FILHOS\u{a0}  \"\n\
         cno = \"00000000000012\"\nemployer = \"52998224725\"\nemployer_kind = 2\n";
     let site = Site::read(rt.alloc(), text.as_bytes())?;
     assert_eq!(rt; cpf_number(site.employer), Some(52_998_224_725));
     assert_eq!(rt; site.cno, 12);
-    assert_eq!(rt; site.name.bytes(), b"CAF\xE9 | FILHOS".as_slice());
+    assert_eq!(rt; site.name.bytes(), b"CAF\xE9 | FILHOS\xA0".as_slice());
     assert_eq!(rt; site.place.bytes(), b"".as_slice());
     assert_eq!(rt; site.responsible.number, 11_144_477_735);
     assert_eq!(rt; site.rep.bytes(), b"12345678901234567".as_slice());
@@ -138,7 +138,7 @@ fn a_value_of_another_kind_is_off(rt: HostRuntime) -> Result<(), Fail> {
 
 #[test]
 fn a_value_off_its_grammar_is_off(rt: HostRuntime) -> Result<(), Fail> {
-    let cases: [(SiteKey, &str); 54] = [
+    let cases: [(SiteKey, &str); 59] = [
         (SiteKey::EmployerKind, "employer_kind = 0"),
         (SiteKey::EmployerKind, "employer_kind = 3"),
         (SiteKey::EmployerKind, "employer_kind = -1"),
@@ -188,7 +188,15 @@ fn a_value_off_its_grammar_is_off(rt: HostRuntime) -> Result<(), Fail> {
         (SiteKey::LastNsr, "last_nsr = 4294967297"),
         (SiteKey::Restarts, "restarts = 1"),
         (SiteKey::Restarts, "restarts = -1"),
+        (
+            SiteKey::EmployerKind,
+            "employer_kind = 3\nemployer_kind_of = 1",
+        ),
+        (SiteKey::Employer, "employer.kind = 1"),
+        (SiteKey::Name, "[name]"),
+        (SiteKey::Offset, "offset = \" -0300\""),
         (SiteKey::Unknown, "zebra = 1"),
+        (SiteKey::Unknown, "\"?\" = 1"),
         (SiteKey::Unknown, "Name = \"ACME\""),
         (SiteKey::Unknown, "\"\" = 1"),
         (SiteKey::Unknown, "[place_of_work]"),
@@ -286,13 +294,14 @@ fn the_first_of_two_keys_that_are_off_is_named(rt: HostRuntime) -> Result<(), Fa
 
 #[test]
 fn the_order_of_the_keys_decides_and_not_that_of_the_file(rt: HostRuntime) -> Result<(), Fail> {
-    let cases: [(&str, SiteKey); 4] = [
+    let cases: [(&str, SiteKey); 5] = [
         ("offset = 1\nname = 1\nemployer_kind = 1", SiteKey::Employer),
         (
             "zebra = 1\nrestarts = 7\nlast_nsr = 0\ncno = \"x\"",
             SiteKey::EmployerKind,
         ),
         ("employer = \"x\"\nemployer_kind = 3", SiteKey::EmployerKind),
+        ("name = \"\"\nemployer_kind = 3", SiteKey::EmployerKind),
         (
             "cno = \"x\"\nemployer = \"11222333000181\"\nemployer_kind = 1",
             SiteKey::Cno,

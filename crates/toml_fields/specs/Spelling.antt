@@ -1,5 +1,5 @@
--- Texts of TOML, which are UTF-8, as texts of ISO 8859-1: the code of a character of ISO 8859-1 is that of the same
--- character of Unicode.
+-- Texts of TOML, which are UTF-8, as texts of ISO 8859-1. The code of a character of ISO 8859-1 is that of the same
+-- character of Unicode (its blocks Basic Latin and Latin-1 Supplement). The codes 0x7F to 0x9F are of no text.
 use Rattle.std.specs.Prelude.{◌≡◌, ℕ, List, ◌++◌, encode_utf8_all}
 use Rattle.rep_fields.specs.Latin.{spaces}
 

@@ -6,7 +6,7 @@ returns-in_default-cno_or_none-clause-off c =
     inr (
       (_, c.in-Some.ensures),
       inr (
-        (c.in-Some-id_at.employer, rw c.in-Some-id_at.ensures.0 c.in-Some.ensures, c.in-Some-id_at.ensures.1),
+        (c.in-Some-id_at.employer, (rw c.in-Some-id_at.ensures.0 c.in-Some.ensures, c.in-Some-id_at.ensures.1)),
         inl (λ sound. c.in_default-cno_or_none.ensures sound.0 sound.1, refl),
       ),
     )
@@ -16,7 +16,7 @@ returns-in_default-text_at-clause-off c =
     inr (
       (_, c.in-Some.ensures),
       inr (
-        (c.in-Some-id_at.employer, rw c.in-Some-id_at.ensures.0 c.in-Some.ensures, c.in-Some-id_at.ensures.1),
+        (c.in-Some-id_at.employer, (rw c.in-Some-id_at.ensures.0 c.in-Some.ensures, c.in-Some-id_at.ensures.1)),
         inr (
           (_, c.in-Some-cno_or_none.ensures),
           inr (

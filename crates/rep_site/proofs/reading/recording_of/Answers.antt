@@ -8,7 +8,7 @@ returns-in_default-number_or-clause-off c =
       inr (
         (_, c.in-Some-number_at.ensures),
         inr (
-          (c.in-Some-id_at.developer, rw c.in-Some-id_at.ensures.0 c.in-Some-number_at.ensures, c.in-Some-id_at.ensures.1),
+          (c.in-Some-id_at.developer, (rw c.in-Some-id_at.ensures.0 c.in-Some-number_at.ensures, c.in-Some-id_at.ensures.1)),
           inr ((_, c.in-Some-offset_at.ensures), inl (λ sound. c.in_default-number_or.ensures sound.0 sound.1, refl)),
         ),
       ),
@@ -21,7 +21,7 @@ returns-in_default-number_or-2-clause-off c =
       inr (
         (_, c.in-Some-number_at.ensures),
         inr (
-          (c.in-Some-id_at.developer, rw c.in-Some-id_at.ensures.0 c.in-Some-number_at.ensures, c.in-Some-id_at.ensures.1),
+          (c.in-Some-id_at.developer, (rw c.in-Some-id_at.ensures.0 c.in-Some-number_at.ensures, c.in-Some-id_at.ensures.1)),
           inr (
             (_, c.in-Some-offset_at.ensures),
             inr (

@@ -22,14 +22,12 @@ returns-clause-ok c =
     let second = c.in-Ok-recording_of.ensures.ok in
     let offset : to_z w16 (of_z w16 c.in-Ok-recording_of.recording.offset) ≡ c.in-Ok-recording_of.recording.offset = search rules in
     record {
-      employer_kind = first.employer_kind;
       employer = first.employer;
       cno = first.cno;
       name = first.name;
       place = first.place;
       responsible = first.responsible;
       rep = second.rep;
-      developer_kind = second.developer_kind;
       developer = second.developer;
       offset = rw offset second.offset;
       last_nsr = second.last_nsr;
