@@ -1,0 +1,13 @@
+pub mod Apart
+pub mod Bars
+pub mod Capped
+pub mod FieldLemmas
+pub mod Lines
+pub mod Plain
+pub mod Printed
+pub mod ReadLemmas
+pub mod RunLemmas
+pub mod Spelled
+pub mod Unique
+pub mod ValueLemmas
+pub mod WritingLemmas

@@ -1,0 +1,33 @@
+//! The lines of an AEJ, the electronic file of working days that a treatment program hands to the inspection: Portaria
+//! MTP 671/2021, annex VI (version 001).
+//!
+//! A line is an [`AejLine`]; [`print`] writes it, and [`read`] reads it, and other spellings of the same values too. No
+//! function here takes memory, and no line has its end, CR LF, here.
+//!
+//! ```rust
+//! let text = aej_records::print(&line);
+//! let found = aej_records::read(text.bytes())?;
+//! ```
+#![tactic(auto)]
+
+mod error;
+#[cfg(test)]
+mod field_tests;
+mod fields;
+mod kind;
+mod laws;
+mod line;
+mod reading;
+#[cfg(test)]
+mod tests;
+mod times;
+mod value;
+mod writing;
+
+pub use error::BadAej;
+pub use kind::LineType;
+pub use laws::{read_lines_can_be_written, written_lines_are_lines};
+pub use line::AejLine;
+pub use reading::{line_type, read};
+pub use times::{MOST_TIMES, Times};
+pub use writing::{LONGEST_WRITTEN, SIGNATURE_LEN, print, signature};
