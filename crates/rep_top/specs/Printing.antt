@@ -209,6 +209,12 @@ IsCutShort text run answered given written next counts =
     ⊎ ((writes : WritesFile text run given written) × IsStrictFront written writes.file)
     ⊎ IsStrictFront counts (counts_text run.recorded answered)
 
+-- nothing of the text is refused: it has an operator's head, no line behind it is refused, and it isn't too long
+pub record IsAcceptable (zone : ℤ) (text : List ℕ) : Type 0 where
+  pub short : length text ≤ longest_text
+  pub headed : HasNoHead (lines_of text) → ⊥
+  pub lines : (run : Run zone) → IsStopped text run → ⊥
+
 -- A whole run of the command: from the text to the status, the readings that the clock gave, the bytes of the AFD's
 -- file and those of the output, where the file's sink and that of the output may have failed.
 pub record Prints (zone : ℤ) (text : List ℕ) (status : ℕ) (given written said : List ℕ) (FileFailed OutputFailed : Type 0) : Type 0 where
