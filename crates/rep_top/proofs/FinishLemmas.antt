@@ -4,10 +4,10 @@ use Rattle.std.specs.Io.KnownBytes.{append_known}
 use Rattle.rep_io.specs.Causes.{Rose}
 use Rattle.rep_top.specs.Output.{run_text}
 use Rattle.rep_top.specs.Printing.{counts_text, IsStrictFront, NeedsCounts}
-use Rattle.rep_top.specs.Ending.{ending_text}
+use Rattle.rep_top.specs.Ending.{status_of, ending_text}
 use Rattle.rep_top.specs.FinishSteps.{counts_line, SaysLine, SaysCounts, Tells, Finishes}
 use Rattle.rep_top.specs.declared.ending.Ending.{Ending}
-use Rattle.rep_top.specs.declared.ending.Ending.TheVariants.{SinkFault}
+use Rattle.rep_top.specs.declared.ending.Ending.TheVariants.{Whole, SinkFault}
 use Rattle.rep_top.proofs.LaneLemmas.{append_known-append}
 use Rattle.rep_top.proofs.FileLemmas.{drop_some}
 
@@ -89,3 +89,10 @@ finishes ending answered recorded old mid new first behind all result c l wider 
   whole = λ none. (c.line.whole (λ f. none (wider f)), l.whole (λ f. none (later f)));
   told = tells-wider ending recorded c.line.put (counts_line recorded answered) first all result wider c.told;
 }
+
+-- a run that ended neither well nor by a fault of a sink had ended so before the counts' line
+pub ended_otherwise : (ending : Ending) (recorded : ℕ) (counts line : List ℕ) (Failed : Type 0) (result : Ending) (P : Type 0) → Tells ending recorded counts line Failed result
+    → (status_of result ≡ 0 → ⊥) → (status_of result ≡ 5 → ⊥) → ((ending ≡ Whole → ⊥) → (ending ≡ SinkFault → ⊥) → P) → P
+ended_otherwise ending recorded counts line Failed result P (inl same) ended_well failed kept =
+    kept (λ whole. ended_well (ap status_of (same ∙ whole))) (λ sink. failed (ap status_of (same ∙ sink)))
+ended_otherwise ending recorded counts line Failed result P (inr t) ended_well failed kept = absurd (failed (ap status_of t.0))

@@ -50,6 +50,11 @@ pub fn top<S: Source, K: Sink, C: Clock>(
         before.source before.file rig.out before.watch after.file result.rig.out after.watch }
     ensures rigged { IsOnGrammar (map string_bytes words.now)
         → Rigged result.rig.texts.items result.rig.outs.items result.rig.clock }
+    // Where no AFD is written, its file isn't opened.
+    ensures unopened { (result.status ≡ 0 → ⊥) → (result.status ≡ 5 → ⊥)
+        → (before : Rigged rig.texts.items rig.outs.items rig.clock)
+        → (after : Rigged result.rig.texts.items result.rig.outs.items result.rig.clock)
+        → after.file ≡ before.file }
     // Where nothing is refused and nothing of the outside fails, the AFD is made, unless memory is short.
     ensures complete { (zone : ℤ) (text : List ℕ) → IsPrint (map string_bytes words.now) zone
         → (before : Rigged rig.texts.items rig.outs.items rig.clock)
@@ -103,6 +108,10 @@ fn print_over<S: Source, K: Sink, C: Clock>(
     ensures sink_fault { result.status ≡ 5 → (before : Rigged rig.texts.items rig.outs.items rig.clock)
         → (after : Rigged result.rig.texts.items result.rig.outs.items result.rig.clock)
         → Rose (K.faults before.file) (K.faults after.file) ⊎ Rose (K.faults rig.out) (K.faults result.rig.out) }
+    ensures unopened { (result.status ≡ 0 → ⊥) → (result.status ≡ 5 → ⊥)
+        → (before : Rigged rig.texts.items rig.outs.items rig.clock)
+        → (after : Rigged result.rig.texts.items result.rig.outs.items result.rig.clock)
+        → after.file ≡ before.file }
     ensures not_words { result.status ≡ 2 → ⊥ }
 {
     let Some(source) = rig.texts.pop() else {
