@@ -7,17 +7,21 @@ program=$PWD/crates/rep_cli/out/rep_cli
 [ -x "$program" ] || { echo "build it first: cd crates/rep_cli && rt run -- print ../../examples/acme-day.lane /tmp/acme.afd -0300" >&2; exit 2; }
 work=$(mktemp -d); trap 'rm -rf "$work"' EXIT
 
+command -v /usr/bin/time >/dev/null || { echo "GNU time is needed: apt-get install time" >&2; exit 2; }
+
 measure() { # name, lane
   python3 - "$1" "$program" "$2" "$work/afd" <<'P'
-import os, resource, subprocess, sys, time
+import os, subprocess, sys, time
 name, program, lane, out = sys.argv[1:]
+command = [program, "print", lane, out, "-0300"]
 best = None
 for _ in range(5 if os.path.getsize(lane) < 1 << 16 else 1):
     start = time.perf_counter()
-    done = subprocess.run([program, "print", lane, out, "-0300"], stdout=subprocess.PIPE)
+    done = subprocess.run(command, stdout=subprocess.PIPE)
     took = time.perf_counter() - start
     best = took if best is None else min(best, took)
-peak = resource.getrusage(resource.RUSAGE_CHILDREN).ru_maxrss
+# GNU time starts the program from a small process, whose memory isn't counted
+peak = int(subprocess.run(["/usr/bin/time", "-f", "%M"] + command, stdout=subprocess.DEVNULL, stderr=subprocess.PIPE).stderr.split()[-1])
 lines = sum(1 for _ in open(lane, "rb")) - 1
 last = done.stdout.decode("latin-1").splitlines()[-1]
 print(f"{name}: status {done.returncode}, {last}, {best * 1000:.1f} ms, {best / max(lines, 1) * 1e6:.2f} us a line, peak {peak / 1024:.1f} MiB")
@@ -48,6 +52,7 @@ P
 }
 
 measure "example lane" examples/acme-day.lane
+[ $# -gt 0 ] || set -- 2000 5000 10000 20000
 for count in "$@"; do
   lane "$count" > "$work/lane"
   measure "500 inclusions, $count clockings" "$work/lane"

@@ -28,11 +28,11 @@ use Rattle.afd_records.proofs.Printed.{printed_laid_out, printed_good, good_not_
 use Rattle.afd_records.proofs.RecordParts.{layout_for, line_parts, cuts-line}
 use Rattle.afd_records.proofs.TypeFields.{type_byte}
 
-same_cpf : (width m n : ℕ) → 11 ≤ width → IsCpf m → IsCpf n → numeral width m ≡ numeral width n → m ≡ n
+pub same_cpf : (width m n : ℕ) → 11 ≤ width → IsCpf m → IsCpf n → numeral width m ≡ numeral width n → m ≡ n
 same_cpf width m n wide cpf_m cpf_n is =
     numeral-injective width m n (FitsDigits-wider 11 width m wide cpf_m.size) (FitsDigits-wider 11 width n wide cpf_n.size) is
 
-same_text : (width : ℕ) (s t : List ℕ) → IsText width s → IsText width t → padded width s ≡ padded width t → s ≡ t
+pub same_text : (width : ℕ) (s t : List ℕ) → IsText width s → IsText width t → padded width s ≡ padded width t → s ≡ t
 same_text width s t text_s text_t is =
     IsFilled-unique s t (padded width t) text_s.trimmed text_t.trimmed
     (subst (λ (field : List ℕ). IsFilled s field) is (IsFilled-padded width s)) (IsFilled-padded width t)
@@ -41,7 +41,7 @@ same_text width s t text_s text_t is =
 same_byte : (a b : ℕ) → a ∷ [] ≡ b ∷ [] → a ≡ b
 same_byte a b is = cc is
 
-same_op : (a b : Op) → op_text a ≡ op_text b → a ≡ b
+pub same_op : (a b : Op) → op_text a ≡ op_text b → a ≡ b
 same_op Include Include is = refl
 same_op Include Amend is = absurd (omega (arith, same_byte 73 65 is))
 same_op Include Exclude is = absurd (omega (arith, same_byte 73 69 is))
@@ -52,13 +52,13 @@ same_op Exclude Include is = absurd (omega (arith, same_byte 69 73 is))
 same_op Exclude Amend is = absurd (omega (arith, same_byte 69 65 is))
 same_op Exclude Exclude is = refl
 
-same_offline : (a b : Bool) → offline_text a ≡ offline_text b → a ≡ b
+pub same_offline : (a b : Bool) → offline_text a ≡ offline_text b → a ≡ b
 same_offline true true is = refl
 same_offline true false is = absurd (omega (arith, same_byte 49 48 is))
 same_offline false true is = absurd (omega (arith, same_byte 48 49 is))
 same_offline false false is = refl
 
-same_id : (a b : EmployerId) → IsEmployerId a → IsEmployerId b → kind_byte a ∷ [] ≡ kind_byte b ∷ []
+pub same_id : (a b : EmployerId) → IsEmployerId a → IsEmployerId b → kind_byte a ∷ [] ≡ kind_byte b ∷ []
     → id_text a ≡ id_text b → a ≡ b
 same_id (Cnpj m) (Cnpj n) in_a in_b kind is = ap Cnpj (numeral-injective 14 m n in_a.size in_b.size is)
 same_id (Cnpj m) (Person n) in_a in_b kind is = absurd (omega (arith, same_byte 49 50 kind))
@@ -94,7 +94,7 @@ fits_event code (inr unavailable) = omega arith
 same_event : (m n : ℕ) → IsWrittenEvent m → IsWrittenEvent n → numeral 2 m ≡ numeral 2 n → m ≡ n
 same_event m n in_m in_n is = numeral-injective 2 m n (fits_event m in_m) (fits_event n in_n) is
 
-same_nsr : (m n : ℕ) → IsNsr m → IsNsr n → numeral 9 m ≡ numeral 9 n → m ≡ n
+pub same_nsr : (m n : ℕ) → IsNsr m → IsNsr n → numeral 9 m ≡ numeral 9 n → m ≡ n
 same_nsr m n in_m in_n is = numeral-injective 9 m n (omega arith) (omega arith) is
 
 -- what a line tells

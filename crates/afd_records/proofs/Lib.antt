@@ -2,7 +2,14 @@ pub mod Apart
 pub mod CrcTable
 pub mod FieldNumbers
 pub mod Halves
+pub mod HeadLines
 pub mod IdFields
+pub mod LooseApart
+pub mod LooseCuts
+pub mod LooseLines
+pub mod LooseStrict
+pub mod LooseTexts
 pub mod Printed
 pub mod RecordParts
+pub mod TrailerParts
 pub mod TypeFields

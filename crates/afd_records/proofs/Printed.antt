@@ -32,7 +32,7 @@ good_not_bad at (kind ∷ kinds) line (suc (suc later)) good bad =
     good_not_bad (at + width_of kind) kinds line (suc later) good.1 bad.1
 
 -- the length of a record's line
-total-layout : (body : Body) → total (map width_of (layout_for body)) ≡ sum_by width_of (layout_for body)
+pub total-layout : (body : Body) → total (map width_of (layout_for body)) ≡ sum_by width_of (layout_for body)
 total-layout (Employer at resp id cno name place) = refl
 total-layout (Adjust before after resp) = refl
 total-layout (Worker at op cpf name extra resp) = refl
@@ -77,7 +77,7 @@ printed_laid_out nsr body hash line is =
     record { type = second_field nsr body hash line is; size = length-line nsr body hash line is }
 
 -- the byte of a kind is one of the two
-kind_field : (id : EmployerId) (bytes : List ℕ) → bytes ≡ kind_byte id ∷ [] → IsField EmployerKindField [] bytes
+pub kind_field : (id : EmployerId) (bytes : List ℕ) → bytes ≡ kind_byte id ∷ [] → IsField EmployerKindField [] bytes
 kind_field (Cnpj number) bytes is = inl is
 kind_field (Person cpf) bytes is = inr is
 

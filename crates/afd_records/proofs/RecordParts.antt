@@ -57,7 +57,7 @@ check_parts (Clocking marked cpf recorded collector offline) check = check ∷ [
 abbrev pub line_parts : ℕ → Body → List ℕ → List (List ℕ)
 line_parts nsr body check = payload_parts nsr body ++ check_parts body check
 
-payload_text-parts : (nsr : ℕ) (body : Body) → payload_text nsr body ≡ concat (payload_parts nsr body)
+pub payload_text-parts : (nsr : ℕ) (body : Body) → payload_text nsr body ≡ concat (payload_parts nsr body)
 unfolding payload_text
 payload_text-parts nsr (Employer at resp id cno name place) = refl
 payload_text-parts nsr (Adjust before after resp) = refl
@@ -84,12 +84,12 @@ record_text-parts nsr body hash =
 length-moment_text : (moment : Moment) → length (moment_text moment) ≡ 24
 length-moment_text moment = (moment_parts (moment_text moment) moment refl).size
 
-length-op_text : (op : Op) → length (op_text op) ≡ 1
+pub length-op_text : (op : Op) → length (op_text op) ≡ 1
 length-op_text Include = refl
 length-op_text Amend = refl
 length-op_text Exclude = refl
 
-length-offline_text : (offline : Bool) → length (offline_text offline) ≡ 1
+pub length-offline_text : (offline : Bool) → length (offline_text offline) ≡ 1
 length-offline_text true = refl
 length-offline_text false = refl
 
@@ -145,7 +145,7 @@ cuts-line nsr body hash line is =
     (parts_of_text parts line (is.written ∙ record_text-parts nsr body (hash_bytes hash)))
 
 -- what is cut from a place on is what stands there
-concat-cuts_taken : (widths : List ℕ) (at : ℕ) (line : List ℕ)
+pub concat-cuts_taken : (widths : List ℕ) (at : ℕ) (line : List ℕ)
     → concat (cuts at widths line) ≡ take (total widths) (drop at line)
 concat-cuts_taken [] at line = refl
 concat-cuts_taken (width ∷ widths) at line =

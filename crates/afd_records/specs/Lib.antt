@@ -5,3 +5,6 @@ pub mod File
 pub mod Fields
 pub mod Parts
 pub mod Reading
+pub mod Lenient
+pub mod LenientHead
+pub mod HeadParts

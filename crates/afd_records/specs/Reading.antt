@@ -4,7 +4,7 @@ use Rattle.afd_records.specs.Line.{IsLineOf}
 use Rattle.afd_records.specs.declared.error.Notes.{Notes}
 use Rattle.afd_records.specs.declared.reading.ReadLine.{ReadLine}
 
--- nothing was passed over
+-- nothing is to be told beside the values
 abbrev pub no_notes : Notes
 no_notes = record { crc = false; stamp = false; rep = false }
 

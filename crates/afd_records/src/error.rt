@@ -1,13 +1,13 @@
-/// A line that isn't one of a record.
+/// A line that isn't one of a record, or isn't a head.
 #[derive(Clone, Copy, Debug, PartialEq, Eq)]
 pub struct BadLine {
     /// The number of the first field that is off its grammar, counted from 1 in the order of Portaria MTP 671/2021,
-    /// annex V. 0 where the line's type, its tenth byte, isn't 2, 4, 5, 6 or 7, or the line hasn't the length of its
-    /// type.
+    /// annex V. 0 where the line's type, its tenth byte, is none that the reader takes, or the line hasn't the length of
+    /// its type. The types are 2, 4, 5, 6 and 7 for a record and 1 for a head.
     pub field: u8,
 }
 
-/// What a lenient reader passed over in a line. A strict reader passes over nothing.
+/// What a lenient reader tells of a line beside its values. A strict reader takes no line of which anything is to be told.
 #[derive(Clone, Copy, Debug, PartialEq, Eq)]
 pub struct Notes {
     /// The checksum isn't that of the line.
@@ -19,7 +19,7 @@ pub struct Notes {
 }
 
 impl Notes {
-    /// Nothing was passed over.
+    /// Nothing is to be told.
     pub const NONE: Notes = Notes {
         crc: false,
         stamp: false,

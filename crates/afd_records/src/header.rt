@@ -31,7 +31,7 @@ pub struct Head {
     pub made: Stamp,
     /// Whether the recorder's maker has a CNPJ, 1, or a CPF, 2 (`tpIdtDesenv`).
     pub dev_kind: u8,
-    /// The maker's CNPJ or CPF in 14 digits (`idtDesenv`).
+    /// The maker's CNPJ or CPF in 14 digits (`idtDesenv`), or 14 spaces in a head that was read and names none.
     pub dev: [u8; 14],
     /// The recorder's model (`modeloRep`).
     pub model: Text<30>,

@@ -18,7 +18,7 @@ use crate::record::Body;
 use rep_fields::Stamp;
 
 // Where the digit of the type stands.
-const TYPE_AT: usize = 9;
+pub(crate) const TYPE_AT: usize = 9;
 
 /// A line of a record that was read.
 #[derive(Clone, Copy, Debug, PartialEq, Eq)]
@@ -29,7 +29,7 @@ pub struct ReadLine {
     pub body: Body,
     /// A clocking's hash, of 64 hexadecimal digits; other records have none.
     pub hash: Option<[u8; 64]>,
-    /// What was passed over in the line.
+    /// What is told of the line beside its values.
     pub notes: Notes,
 }
 

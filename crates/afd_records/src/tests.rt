@@ -13,7 +13,7 @@ const CLOCKING: &[u8] =
     b"00000000372024-03-04T08:00:00-03000111444777352024-03-04T13:00:00-0300051";
 
 // The parts of a line, each filled with spaces to its width.
-fn joined(alloc: Global, parts: &[(&[u8], usize)]) -> Result<Vec<u8>, AllocError> {
+pub(crate) fn joined(alloc: Global, parts: &[(&[u8], usize)]) -> Result<Vec<u8>, AllocError> {
     let mut line = Vec::new(alloc);
     for (text, width) in parts {
         line.extend_from_slice(text)?;
@@ -25,7 +25,7 @@ fn joined(alloc: Global, parts: &[(&[u8], usize)]) -> Result<Vec<u8>, AllocError
 }
 
 // The checksums of these lines were made by a division of the bits in their usual order, not by a table.
-fn employer_line(alloc: Global) -> Result<Vec<u8>, AllocError> {
+pub(crate) fn employer_line(alloc: Global) -> Result<Vec<u8>, AllocError> {
     joined(
         alloc,
         &[
@@ -42,7 +42,7 @@ fn employer_line(alloc: Global) -> Result<Vec<u8>, AllocError> {
     )
 }
 
-fn worker_line(alloc: Global) -> Result<Vec<u8>, AllocError> {
+pub(crate) fn worker_line(alloc: Global) -> Result<Vec<u8>, AllocError> {
     joined(
         alloc,
         &[
@@ -58,7 +58,7 @@ fn worker_line(alloc: Global) -> Result<Vec<u8>, AllocError> {
     )
 }
 
-fn adjust_line(alloc: Global) -> Result<Vec<u8>, AllocError> {
+pub(crate) fn adjust_line(alloc: Global) -> Result<Vec<u8>, AllocError> {
     joined(
         alloc,
         &[
@@ -71,7 +71,7 @@ fn adjust_line(alloc: Global) -> Result<Vec<u8>, AllocError> {
     )
 }
 
-fn event_line(alloc: Global) -> Result<Vec<u8>, AllocError> {
+pub(crate) fn event_line(alloc: Global) -> Result<Vec<u8>, AllocError> {
     joined(
         alloc,
         &[
@@ -82,7 +82,7 @@ fn event_line(alloc: Global) -> Result<Vec<u8>, AllocError> {
     )
 }
 
-fn clocking_line(alloc: Global) -> Result<Vec<u8>, AllocError> {
+pub(crate) fn clocking_line(alloc: Global) -> Result<Vec<u8>, AllocError> {
     joined(alloc, &[(CLOCKING, 73), (HASH, 64)])
 }
 

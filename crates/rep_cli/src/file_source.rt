@@ -1,4 +1,4 @@
-ghost use Rattle.std.specs.Prelude.{None};
+ghost use Rattle.std.specs.Prelude.{◌≡◌, None};
 ghost use Rattle.std.specs.Io.{ReadsAtMost};
 
 use rep_io::{Failed, Source};
@@ -17,7 +17,10 @@ pub struct FileSource<'a, R: Files> {
 
 impl<'a, R: Files> FileSource<'a, R> {
     /// The file at a path, which need not be there.
-    pub fn new(rt: &'a R, path: &'a str) -> Self {
+    pub fn new(rt: &'a R, path: &'a str) -> Self
+        ensures path { result.path.now ≡ path.now }
+        ensures sound { result.faults ≡ 0 }
+    {
         FileSource {
             rt,
             path,

@@ -1,71 +1,82 @@
-ghost use Rattle.std.specs.Prelude.{◌<◌, ◌≤◌, None, IfOk, length};
+ghost use Rattle.std.specs.Prelude.{◌≡◌, ◌<◌, ◌≤◌, None, Some, IfOk, length, option_copied};
 
 use rep_io::{Failed, Sink};
 use std::fs::File;
 use std::io::{self, Write};
 use std::rt::Files;
 
-/// Where bytes are written to.
-#[derive(Drop)]
-enum Place<'a, R: Files> {
-    /// Standard output.
-    Standard,
-    /// A file, which is emptied, or made where it isn't there, when it is opened at the first call.
-    File {
-        path: &'a str,
-        opened: Option<R::File>,
-    },
-}
-
 /// Standard output, or a file that is written. It tells nothing of its content.
 #[derive(Drop)]
 pub struct OutputSink<'a, R: Files + Print> {
     rt: &'a R,
-    place: Place<'a, R>,
+    /// The path of the file; none for standard output.
+    path: Option<&'a str>,
+    file: Option<R::File>,
     faults: u64,
 }
 
 impl<'a, R: Files + Print> OutputSink<'a, R> {
     /// Standard output.
-    pub fn standard(rt: &'a R) -> Self {
+    pub fn standard(rt: &'a R) -> Self
+        ensures path { option_copied result.path ≡ None }
+    {
         OutputSink {
             rt,
-            place: Place::Standard,
+            path: None,
+            file: None,
             faults: 0,
         }
     }
 
-    /// The file at a path, which stays as it is until the first call.
-    pub fn file(rt: &'a R, path: &'a str) -> Self {
+    /// The file at a path. It stays as it is until the first call, which empties it, or makes it where it isn't there.
+    pub fn file(rt: &'a R, path: &'a str) -> Self
+        ensures path { option_copied result.path ≡ Some path.now }
+    {
         OutputSink {
             rt,
-            place: Place::File { path, opened: None },
+            path: Some(path),
+            file: None,
             faults: 0,
         }
     }
 }
 
-/// Writes a front of the piece.
+/// Writes a front of the piece to standard output, or to the file at the path, which is made where it isn't open.
+fn write_to<R: Files + Print>(
+    rt: &R,
+    path: Option<&str>,
+    file: &mut Option<R::File>,
+    piece: &[u8],
+) -> io::Result<usize>
+    ensures { IfOk result (λ n. n ≤ length piece.now) }
+{
+    let Some(path) = path else {
+        return io::writer(rt).write(piece);
+    };
+    if let Some(file) = file {
+        return file.write(piece);
+    }
+    let mut made = File::create(rt, path)?;
+    let count = made.write(piece)?;
+    *file = Some(made);
+    Ok(count)
+}
+
+/// Writes a front of the piece, some byte at least.
 ///
 /// # Errors
 ///
 /// One of the system's, or `WriteZero` where nothing was taken of a piece that isn't empty.
-fn write_some<R: Files + Print>(rt: &R, place: &mut Place<R>, piece: &[u8]) -> io::Result<usize>
+fn write_some<R: Files + Print>(
+    rt: &R,
+    path: Option<&str>,
+    file: &mut Option<R::File>,
+    piece: &[u8],
+) -> io::Result<usize>
     ensures within { IfOk result (λ n. n ≤ length piece.now) }
     ensures some { IfOk result (λ n. 0 < length piece.now → 0 < n) }
 {
-    let count = match place {
-        Place::Standard => io::writer(rt).write(piece)?,
-        Place::File { path, opened } => match opened {
-            Some(file) => file.write(piece)?,
-            None => {
-                let mut file = File::create(rt, *path)?;
-                let count = file.write(piece)?;
-                *opened = Some(file);
-                count
-            }
-        },
-    };
+    let count = write_to(rt, path, file, piece)?;
     if count == 0 && !piece.is_empty() {
         return Err(io::Error::from(io::ErrorKind::WriteZero));
     }
@@ -78,7 +89,7 @@ impl<'a, R: Files + Print> Sink for OutputSink<'a, R> {
     ghost faults = { λ s. s.faults };
 
     fn write(&mut self, piece: &[u8]) -> Result<usize, Failed> {
-        match write_some(self.rt, &mut self.place, piece) {
+        match write_some(self.rt, self.path, &mut self.file, piece) {
             Ok(count) => Ok(count),
             Err(_) => {
                 self.faults = self.faults.saturating_add(1);

@@ -1,6 +1,7 @@
-ghost use Rattle.std.specs.Prelude.{◌≡◌, ◌<◌, [], None, All, map, string_bytes, length, is_some, IfOk};
-ghost use Rattle.rep_top.specs.Words.{IsOnGrammar};
+ghost use Rattle.std.specs.Prelude.{◌≡◌, ◌<◌, [], None, Some, option_copied, All, map, string_bytes, length, is_some, IfOk, ℤ};
+ghost use Rattle.rep_top.specs.Words.{IsOnGrammar, IsPrint};
 ghost use Rattle.rep_top.specs.Rigged.{Rigged};
+ghost use Rattle.rep_cli.specs.Paths.{word_at};
 
 use crate::file_source::FileSource;
 use crate::output_sink::OutputSink;
@@ -26,6 +27,11 @@ pub fn rig_for<'a, R: Files + Print + Clock>(
 ) -> Result<SystemRig<'a, R>, OutOfMemory>
     ensures rigged { IfOk result (λ rig. IsOnGrammar (map string_bytes words.now)
         → Rigged rig.texts.items rig.outs.items rig.clock) }
+    ensures reads { IfOk result (λ rig. (zone : ℤ) (print : IsPrint (map string_bytes words.now) zone)
+        (rigged : Rigged rig.texts.items rig.outs.items rig.clock) → rigged.source.path.now ≡ print.lane) }
+    ensures writes { IfOk result (λ rig. (zone : ℤ) (print : IsPrint (map string_bytes words.now) zone)
+        (rigged : Rigged rig.texts.items rig.outs.items rig.clock) → option_copied rigged.file.path ≡ Some print.out) }
+    ensures says { IfOk result (λ rig. option_copied rig.out.path ≡ None) }
     ensures empty { IfOk result (λ rig. (IsOnGrammar (map string_bytes words.now) → ⊥)
         → (rig.texts.items ≡ []) × (rig.outs.items ≡ []) × (rig.clock ≡ None)) }
 {
@@ -41,6 +47,7 @@ fn empty_rig<R: Files + Print + Clock>(alloc: Global, rt: &R) -> SystemRig<R>
     ensures texts { result.texts.items ≡ [] }
     ensures outs { result.outs.items ≡ [] }
     ensures clock { result.clock ≡ None }
+    ensures out { option_copied result.out.path ≡ None }
 {
     Rig {
         texts: Vec::new(alloc),
@@ -59,8 +66,11 @@ fn rig_of<'a, R: Files + Print + Clock>(
 ) -> Result<SystemRig<'a, R>, OutOfMemory>
     requires texts { All (λ place. place < length words.now) errand.now.texts.items }
     requires outs { All (λ place. place < length words.now) errand.now.outs.items }
-    ensures texts { IfOk result (λ rig. length rig.texts.items ≡ length errand.now.texts.items) }
-    ensures outs { IfOk result (λ rig. length rig.outs.items ≡ length errand.now.outs.items) }
+    ensures texts { IfOk result (λ rig. map (λ s. s.path.now) rig.texts.items
+        ≡ map (word_at (map string_bytes words.now)) errand.now.texts.items) }
+    ensures outs { IfOk result (λ rig. map (λ s. option_copied s.path) rig.outs.items
+        ≡ map (λ place. Some (word_at (map string_bytes words.now) place)) errand.now.outs.items) }
+    ensures out { IfOk result (λ rig. option_copied rig.out.path ≡ None) }
     ensures clock { IfOk result (λ rig. is_some rig.clock ≡ errand.now.clock) }
 {
     Ok(Rig {
@@ -79,7 +89,8 @@ fn sources<'a, R: Files>(
     places: &[u32],
 ) -> Result<Vec<FileSource<'a, R>>, OutOfMemory>
     requires named { All (λ place. place < length words.now) places.now }
-    ensures count { IfOk result (λ sources. length sources.items ≡ length places.now) }
+    ensures paths { IfOk result (λ sources. map (λ s. s.path.now) sources.items
+        ≡ map (word_at (map string_bytes words.now)) places.now) }
 {
     let mut sources = Vec::new(alloc);
     for place in places {
@@ -96,7 +107,8 @@ fn files<'a, R: Files + Print>(
     places: &[u32],
 ) -> Result<Vec<OutputSink<'a, R>>, OutOfMemory>
     requires named { All (λ place. place < length words.now) places.now }
-    ensures count { IfOk result (λ files. length files.items ≡ length places.now) }
+    ensures paths { IfOk result (λ files. map (λ s. option_copied s.path) files.items
+        ≡ map (λ place. Some (word_at (map string_bytes words.now) place)) places.now) }
 {
     let mut files = Vec::new(alloc);
     for place in places {

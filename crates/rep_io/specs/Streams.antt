@@ -20,12 +20,12 @@ Writes old new result piece =
     (λ n. (n ≤ length piece) × (0 < length piece → 0 < n) × (new ≡ append_known old (take n piece)))
     (λ _. new ≡ old)
 
--- A piece was appended: all of it, or where the sink failed, a front of it.
+-- A piece was appended: all of it, or where the sink failed, a front of it that lacks a byte at least.
 abbrev pub WritesAll : {E : Type 0} → Option (List ℕ) → Option (List ℕ) → Result (Unit {0}) E → List ℕ → Type 0
 WritesAll old new result piece =
     MatchResult result
     (λ _. new ≡ append_known old piece)
-    (λ _. (n : ℕ) × (n ≤ length piece) × (new ≡ append_known old (take n piece)))
+    (λ _. (n : ℕ) × (n < length piece) × (new ≡ append_known old (take n piece)))
 
 -- a moment that a clock may answer: whole minutes since 1970-01-01T00:00 UTC, so far inside the range of stamps
 -- that the local time at each offset is in that range

@@ -17,7 +17,7 @@ const READ_SIZE: usize = 65_536;
 ///
 /// # Errors
 ///
-/// `SinkFault` only where the sink failed in this call. Some front of the piece was taken then.
+/// `SinkFault` only where the sink failed in this call. Some front of the piece was taken then, and not all of it.
 pub fn put_all<K: Sink>(sink: &mut K, piece: &[u8]) -> Result<(), SinkFault>
     ensures bytes { WritesAll (K.written sink.old) (K.written sink.new) result piece.now }
     ensures cause { HasCause (K.faults sink.old) (K.faults sink.new) result }

@@ -1,5 +1,5 @@
 -- The steps by which an AFD is written.
-use Rattle.std.proofs.Common.{◌≡◌, ℕ, ◌+◌, ◌-◌, ◌≤◌, List, [], ◌∷◌, ◌++◌, length, take, drop, get_or, All, Option, Some, None, refl, sym, ap, subst, ◌∙◌, append_assoc, append-nil, arith, replicate, ℤ, slice_get, Result, Ok, Err, IsErr}
+use Rattle.std.proofs.Common.{◌≡◌, ◌≢◌, ℕ, ◌+◌, ◌-◌, ◌<◌, ◌≤◌, List, [], ◌∷◌, ◌++◌, length, take, drop, get_or, All, Option, Some, None, refl, sym, ap, subst, ◌∙◌, append_assoc, append-nil, arith, replicate, ℤ, slice_get, Result, Ok, Err, IsErr, length-drop}
 use Rattle.std.specs.Io.KnownBytes.{append_known}
 use Rattle.std.specs.List.{flat_map}
 use Rattle.std.proofs.lemmas.Grind.{flat_map-append}
@@ -29,6 +29,17 @@ append_known-nil : (o : Option (List ℕ)) → append_known o [] ≡ o
 append_known-nil None = refl
 append_known-nil (Some z) = ap Some (append-nil z)
 
+append_nil_left : (xs ys : List ℕ) → xs ++ ys ≡ [] → xs ≡ []
+append_nil_left [] ys e = refl
+append_nil_left (x ∷ xs) ys e = absurd cc
+
+-- what is left behind fewer bytes than there are
+pub drop_some : (n : ℕ) (xs : List ℕ) → n < length xs → drop n xs ≢ []
+drop_some n xs less none =
+    let size : length (drop n xs) ≡ length xs - n = length-drop n xs in
+    let nothing : length (drop n xs) ≡ 0 = ap length none in
+    omega arith
+
 -- bytes that are only held
 pub PutsOn-held : (o : Option (List ℕ)) (held kept text : List ℕ) → kept ≡ held ++ text → PutsOn o o held kept text
 PutsOn-held o held kept text e = record { put = []; appended = sym (append_known-nil o); whole = sym e }
@@ -55,8 +66,9 @@ PutsFront-more old mid new held kept first second one two =
       appended = two.appended ∙ ap (λ o. append_known o two.put) one.appended ∙ append_known-append old one.put two.put;
       front = (
         rest,
+        two.front.1,
         sym (append_assoc held first second) ∙ ap (λ xs. xs ++ second) one.whole ∙ append_assoc one.put kept second
-            ∙ ap (λ xs. one.put ++ xs) two.front.1 ∙ sym (append_assoc one.put two.put rest),
+            ∙ ap (λ xs. one.put ++ xs) two.front.2 ∙ sym (append_assoc one.put two.put rest),
       );
     }
 
@@ -65,7 +77,11 @@ pub PutsFront-longer : (old new : Option (List ℕ)) (text more : List ℕ) → 
 PutsFront-longer old new text more part = record {
   put = part.put;
   appended = part.appended;
-  front = (part.front.0 ++ more, ap (λ xs. xs ++ more) part.front.1 ∙ append_assoc part.put part.front.0 more);
+  front = (
+    part.front.0 ++ more,
+    (λ none. part.front.1 (append_nil_left part.front.0 more none)),
+    ap (λ xs. xs ++ more) part.front.2 ∙ append_assoc part.put part.front.0 more,
+  );
 }
 
 -- the head
@@ -115,11 +131,11 @@ Puts-failed old new held kept text (Ok v) failed part = cc
 
 -- all of what is held is written, or a front
 pub PutsFront-held : (old new : Option (List ℕ)) (held piece : List ℕ) → piece ≡ held
-    → (n : ℕ) × (n ≤ length piece) × (new ≡ append_known old (take n piece)) → PutsFront old new (held ++ [])
+    → (n : ℕ) × (n < length piece) × (new ≡ append_known old (take n piece)) → PutsFront old new (held ++ [])
 PutsFront-held old new held piece same part = record {
   put = take part.0 piece;
   appended = part.2;
-  front = (drop part.0 piece, append-nil held ∙ sym same ∙ sym (take-append-drop part.0 piece));
+  front = (drop part.0 piece, drop_some part.0 piece part.1, append-nil held ∙ sym same ∙ sym (take-append-drop part.0 piece));
 }
 
 pub PutsFront-first : (old new : Option (List ℕ)) (held first rest : List ℕ) → PutsFront old new (held ++ first) → PutsFront old new (held ++ (first ++ rest))
@@ -215,6 +231,7 @@ PutsText-whole old mid new none held piece text (Err e) empty same one all =
       appended = all.2 ∙ ap (λ o. append_known o (take n piece)) one.appended ∙ append_known-append old one.put (take n piece);
       front = (
         drop n piece,
+        drop_some n piece all.1,
         whole ∙ ap (λ xs. one.put ++ xs) (sym same ∙ sym (take-append-drop n piece)) ∙ sym (append_assoc one.put (take n piece) (drop n piece)),
       );
     }

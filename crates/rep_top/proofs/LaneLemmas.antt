@@ -151,6 +151,7 @@ module _ {S : Type 0} (left : S → Option (List ℕ)) (c_old c_mid c_new : Cutt
   unfolding rests
   ended Whole t = record {
     recorded = rests t.0;
+    cut = λ same. absurd cc;
     ends = λ text first r.
         let met = t.2 text (first ∷ u.lines) (u.read text first r) in (
           [],
@@ -163,24 +164,28 @@ module _ {S : Type 0} (left : S → Option (List ℕ)) (c_old c_mid c_new : Cutt
           ),
         );
   }
-  ended Refused t = record { recorded = rests t.0; ends = λ text first r. refused_ends text first (t.1 text (first ∷ u.lines) (u.read text first r)) }
+  ended Refused t = record { recorded = rests t.0; cut = λ same. absurd cc; ends = λ text first r. refused_ends text first (t.1 text (first ∷ u.lines) (u.read text first r)) }
   ended SourceFault t = record {
     recorded = rests t.0;
+    cut = λ same. absurd cc;
     ends = λ text first r.
         let met = t.1 text (first ∷ u.lines) (u.read text first r) in (met.0, met.1, answered_all);
   }
   ended ClockFault t = record {
     recorded = rests t.0;
+    cut = λ same. absurd cc;
     ends = λ text first r.
         let met = t.1 text (first ∷ u.lines) (u.read text first r) in (met.0, met.1, answered_all);
   }
   ended NoMemory t = record {
     recorded = rests t.0;
+    cut = λ same. absurd cc;
     ends = λ text first r.
         let met = t.1 text (first ∷ u.lines) (u.read text first r) in (met.0 ∷ met.1.0, met.1.1, (answered_all, never_nil met.0 met.1.0));
   }
   ended TooLong t = record {
     recorded = rests t.0;
+    cut = λ same. absurd cc;
     ends = λ text first r.
         let met = t.1 text (first ∷ u.lines) (u.read text first r) in (met.0.0, met.0.1, (answered_all, met.1, met.2));
   }
@@ -202,10 +207,11 @@ module _ {S : Type 0} (left : S → Option (List ℕ)) (c_old c_mid c_new : Cutt
           stands = goes.stands;
           readings = goes.readings ∙ ap (λ (o : Option (List ℕ)). append_known o (goes.minute ∷ [])) u.readings ∙ append_known-append old u.minutes (goes.minute ∷ []);
           next = t.2;
-          next_front = (t.3.0, ap concat behind ∙ append-nil t.1 ∙ t.3.1);
+          next_front = (t.3.0, ap concat behind ∙ append-nil t.1 ∙ t.3.2);
           said = goes.said ∙ ap (λ (o : Option (List ℕ)). append_known o t.2) u.said ∙ append_known-append out_old (concat u.replies) t.2
               ∙ ap (λ (rs : List (List ℕ)). append_known out_old (concat rs ++ t.2)) (sym taken);
         };
+        cut = λ _. (t.3.0, t.3.1, ap concat behind ∙ append-nil t.1 ∙ t.3.2);
         ends = λ text first r.
             let met = t.5 text (first ∷ u.lines) (u.read text first r) in
             (met.0, met.1, omega arith);

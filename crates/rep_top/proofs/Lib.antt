@@ -9,3 +9,4 @@ pub mod EmployerLemmas
 pub mod FinishLemmas
 pub mod HeadLines
 pub mod RunLemmas
+mod Complete

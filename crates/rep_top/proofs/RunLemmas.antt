@@ -1,5 +1,5 @@
 -- from the parts of a run of `print` to the run
-use Rattle.std.proofs.Common.{◌≡◌, ℕ, ◌+◌, ◌≤◌, inl, inr, List, [], ◌∷◌, ◌++◌, length, take, drop, Option, Err, ℤ, refl, sym, ap, subst, ◌∙◌, append-nil, append_assoc, arith}
+use Rattle.std.proofs.Common.{◌≡◌, ℕ, ◌+◌, ◌≤◌, ◌⊎◌, inl, inr, List, [], ◌∷◌, ◌++◌, length, take, drop, Option, Err, ℤ, refl, sym, ap, subst, ◌∙◌, append-nil, append_assoc, arith}
 use Rattle.std.specs.List.{concat}
 use Rattle.std.specs.Io.KnownBytes.{append_known}
 use Rattle.rep_io.specs.Lines.{lines_of}
@@ -12,7 +12,7 @@ use Rattle.std.proofs.lemmas.List.{take_all, drop_all}
 use Rattle.rep_top.specs.Output.{employer_line}
 use Rattle.rep_top.specs.Ending.{status_of, ending_text}
 use Rattle.rep_top.specs.FinishSteps.{counts_line, Tells, Finishes}
-use Rattle.rep_top.specs.Printing.{Run, IsRunOf, IsAllRecorded, EndsBy, StopsAt, NeedsCounts, counts_text, WritesFile}
+use Rattle.rep_top.specs.Printing.{Run, IsRunOf, IsAllRecorded, EndsBy, StopsAt, NeedsCounts, counts_text, WritesFile, IsStrictFront, IsCutShort}
 use Rattle.rep_top.specs.Steps.{EndsLane, Ended}
 use Rattle.rep_top.specs.HeadSteps.{Heads}
 use Rattle.rep_top.specs.RunSteps.{Closes, before, LaneEnds, Laned, Ran}
@@ -27,12 +27,13 @@ no_run zone head = record { head = head; recorded = []; behind = []; minutes = [
 
 module _ {S : Type 0} (left : S → Option (List ℕ)) (c_old c_new : Cutter S) (zone : ℤ) (head : LaneHead) (core : Kept)
     (clock file out : Option (List ℕ)) (FileFailed OutputFailed : Type 0) where
-  headless_ends : (e : Ending) (text : List ℕ) → Heads left c_new text (Err e) → LaneEnds text (no_run zone head) 0 [] [] FileFailed OutputFailed e
+  headless_ends : (e : Ending) (text : List ℕ) → Heads left c_new text (Err e) → LaneEnds text (no_run zone head) 0 [] [] [] FileFailed OutputFailed e
   headless_ends NoHead text h = record {
     in_order = λ some. absurd (some refl);
     ends = (record { all_answered = refl; writes = record { readings = refl; nothing = refl } }, record { none = refl; no_head = h.0; within = h.1 });
     whole_or_none = λ _. inl (record { readings = refl; nothing = refl });
     all_answered = λ _. refl;
+    cut = λ sink. absurd cc;
     not_all = λ same. absurd cc;
   }
   headless_ends SourceFault text h = record {
@@ -40,6 +41,7 @@ module _ {S : Type 0} (left : S → Option (List ℕ)) (c_old c_new : Cutter S) 
     ends = record { all_answered = refl; writes = record { readings = refl; nothing = refl } };
     whole_or_none = λ _. inl (record { readings = refl; nothing = refl });
     all_answered = λ _. refl;
+    cut = λ sink. absurd cc;
     not_all = λ same. absurd cc;
   }
   headless_ends TooLong text h = record {
@@ -47,6 +49,7 @@ module _ {S : Type 0} (left : S → Option (List ℕ)) (c_old c_new : Cutter S) 
     ends = (record { all_answered = refl; writes = record { readings = refl; nothing = refl } }, record { long = h.0; read = inl (h.1, refl) });
     whole_or_none = λ _. inl (record { readings = refl; nothing = refl });
     all_answered = λ _. refl;
+    cut = λ sink. absurd cc;
     not_all = λ same. absurd cc;
   }
   headless_ends Whole text h = absurd h
@@ -90,7 +93,7 @@ module _ {S : Type 0} (left : S → Option (List ℕ)) (c_old c_mid : Cutter S) 
 
   ends_by : (e : Ending) → (e ≡ Whole → ⊥) → (d : Ended left c_mid zone head core old mid out_old out_new e answered) → (e ≡ SinkFault → OutputFailed) → (text first : List ℕ) → IsOperatorHead head first
       → (behind : List (List ℕ)) → lines_of text ≡ first ∷ d.recorded.lines ++ behind → EndsLane head text d.recorded.lines behind d.recorded.history answered e
-      → LaneEnds text (before (run_of e d) behind) answered d.recorded.minutes [] FileFailed OutputFailed e
+      → LaneEnds text (before (run_of e d) behind) answered d.recorded.minutes [] d.recorded.next FileFailed OutputFailed e
   ends_by Whole other d failed text first headed behind lines ends = absurd (other refl)
   ends_by NoHead other d failed text first headed behind lines ends = absurd ends
   ends_by Refused other d failed text first headed behind lines ends = record {
@@ -101,6 +104,7 @@ module _ {S : Type 0} (left : S → Option (List ℕ)) (c_old c_mid : Cutter S) 
     );
     whole_or_none = λ _. inl (record { readings = refl; nothing = refl });
     all_answered = λ _. ends.0;
+    cut = λ sink. absurd cc;
     not_all = λ same. absurd cc;
   }
   ends_by NoMemory other d failed text first headed behind lines ends = record {
@@ -108,6 +112,7 @@ module _ {S : Type 0} (left : S → Option (List ℕ)) (c_old c_mid : Cutter S) 
     ends = record { all_answered = ends.0; writes = record { readings = refl; nothing = refl } };
     whole_or_none = λ _. inl (record { readings = refl; nothing = refl });
     all_answered = λ _. ends.0;
+    cut = λ sink. absurd cc;
     not_all = λ same all. ends.1 all.none_behind;
   }
   ends_by ClockFault other d failed text first headed behind lines ends = record {
@@ -115,6 +120,7 @@ module _ {S : Type 0} (left : S → Option (List ℕ)) (c_old c_mid : Cutter S) 
     ends = record { all_answered = ends; writes = record { readings = refl; nothing = refl } };
     whole_or_none = λ _. inl (record { readings = refl; nothing = refl });
     all_answered = λ _. ends;
+    cut = λ sink. absurd cc;
     not_all = λ same. absurd cc;
   }
   ends_by SourceFault other d failed text first headed behind lines ends = record {
@@ -122,6 +128,7 @@ module _ {S : Type 0} (left : S → Option (List ℕ)) (c_old c_mid : Cutter S) 
     ends = record { all_answered = ends; writes = record { readings = refl; nothing = refl } };
     whole_or_none = λ _. inl (record { readings = refl; nothing = refl });
     all_answered = λ _. ends;
+    cut = λ sink. absurd cc;
     not_all = λ same. absurd cc;
   }
   ends_by TooLong other d failed text first headed behind lines ends = record {
@@ -132,6 +139,7 @@ module _ {S : Type 0} (left : S → Option (List ℕ)) (c_old c_mid : Cutter S) 
     );
     whole_or_none = λ _. inl (record { readings = refl; nothing = refl });
     all_answered = λ _. ends.0;
+    cut = λ sink. absurd cc;
     not_all = λ same. absurd cc;
   }
   ends_by SinkFault other d failed text first headed behind lines ends = record {
@@ -139,6 +147,7 @@ module _ {S : Type 0} (left : S → Option (List ℕ)) (c_old c_mid : Cutter S) 
     ends = inl (ends, record { readings = refl; nothing = refl });
     whole_or_none = λ _. inl (record { readings = refl; nothing = refl });
     all_answered = λ never. absurd (never (failed refl));
+    cut = λ sink. inl (d.cut sink);
     not_all = λ same. absurd cc;
   }
 
@@ -192,6 +201,7 @@ module _ {S : Type 0} (left : S → Option (List ℕ)) (c_old c_mid : Cutter S) 
                   ends = (end.2.0, (writes, c.2));
                   whole_or_none = λ _. inr (writes, c.2);
                   all_answered = λ _. end.2.0;
+                  cut = λ sink. absurd cc;
                   not_all = λ same. absurd cc;
                 },
               );
@@ -221,6 +231,7 @@ module _ {S : Type 0} (left : S → Option (List ℕ)) (c_old c_mid : Cutter S) 
                   ends = inr (end.2.0, inr writes);
                   whole_or_none = λ never. absurd (never (failed refl));
                   all_answered = λ _. end.2.0;
+                  cut = λ sink. inr (writes, c.2);
                   not_all = λ same. absurd cc;
                 },
               );
@@ -245,6 +256,7 @@ module _ {S : Type 0} (left : S → Option (List ℕ)) (c_old c_mid : Cutter S) 
                   ends = record { all_answered = end.2.0; writes = record { readings = refl; nothing = refl } };
                   whole_or_none = λ _. inl (record { readings = refl; nothing = refl });
                   all_answered = λ _. end.2.0;
+                  cut = λ sink. absurd cc;
                   not_all = λ same. absurd cc;
                 },
               );
@@ -260,8 +272,8 @@ front_nil [] ys e = refl
 front_nil (x ∷ xs) ys e = absurd cc
 
 -- what was told of a lane, and of the output behind it
-module _ {zone : ℤ} (text : List ℕ) (run : Run zone) (answered recorded : ℕ) (given written : List ℕ) (FileFailed OutputFailed Failed : Type 0) where
-  sink_ends : (e : Ending) → LaneEnds text run answered given written FileFailed OutputFailed e → NeedsCounts e → 1 ≤ length run.recorded
+module _ {zone : ℤ} (text : List ℕ) (run : Run zone) (answered recorded : ℕ) (given written next counts line : List ℕ) (FileFailed OutputFailed Failed : Type 0) where
+  sink_ends : (e : Ending) → LaneEnds text run answered given written next FileFailed OutputFailed e → NeedsCounts e → 1 ≤ length run.recorded
       → EndsBy text run answered given written SinkFault
   sink_ends Whole le needs some = inr (le.ends.0, inr le.ends.1.0)
   sink_ends NoHead le needs some = let none = ap length le.ends.1.none in absurd (omega arith)
@@ -281,10 +293,22 @@ module _ {zone : ℤ} (text : List ℕ) (run : Run zone) (answered recorded : �
   sink_ends ClockFault le needs some = absurd needs
   sink_ends TooLong le needs some = absurd needs
 
-  told_ends : (e told : Ending) → LaneEnds text run answered given written FileFailed OutputFailed e → recorded ≡ length run.recorded → Tells e recorded Failed told
+  -- a reply or the AFD was cut
+  or_file : IsStrictFront next (concat (drop answered run.replies)) ⊎ ((writes : WritesFile text run given written) × IsStrictFront written writes.file)
+      → IsCutShort text run answered given written next counts
+  or_file (inl reply) = inl reply
+  or_file (inr file) = inr (inl file)
+
+  told_ends : (e told : Ending) → LaneEnds text run answered given written next FileFailed OutputFailed e → recorded ≡ length run.recorded → Tells e recorded counts line Failed told
       → EndsBy text run answered given written told
   told_ends e told le count (inl same) = subst (λ (x : Ending). EndsBy text run answered given written x) (sym same) le.ends
-  told_ends e told le count (inr t) = subst (λ (x : Ending). EndsBy text run answered given written x) (sym t.0) (sink_ends e le t.1 (omega (arith, t.3, count)))
+  told_ends e told le count (inr t) = subst (λ (x : Ending). EndsBy text run answered given written x) (sym t.0) (sink_ends e le t.1 (omega (arith, t.4, count)))
+
+  -- what was cut where a sink failed
+  cuts : (e told : Ending) → LaneEnds text run answered given written next FileFailed OutputFailed e → line ≡ counts_text run.recorded answered
+      → Tells e recorded counts line Failed told → told ≡ SinkFault → IsCutShort text run answered given written next counts
+  cuts e told le is (inl same) sink = or_file (le.cut (sym same ∙ sink))
+  cuts e told le is (inr t) sink = inr (inr (subst (λ (l : List ℕ). IsStrictFront counts l) is t.3))
 
 module _ {S : Type 0} (left : S → Option (List ℕ)) (c_old : Cutter S) (zone : ℤ) (core : Kept) (answered recorded : ℕ)
     (old new file_old file_new out_old out_mid out_new : Option (List ℕ)) (FileFailed OutputFailed Failed AnyFailed : Type 0) where
@@ -318,7 +342,7 @@ module _ {S : Type 0} (left : S → Option (List ℕ)) (c_old : Cutter S) (zone 
               ending = told;
               status_is = refl;
               in_order = le.in_order;
-              ends = told_ends text (before l.run end.0) answered recorded l.given l.into_file FileFailed OutputFailed Failed e told le counted f.told;
+              ends = told_ends text (before l.run end.0) answered recorded l.given l.into_file l.next f.counts (counts_line recorded answered) FileFailed OutputFailed Failed e told le counted f.told;
               says = record {
                 next = l.next;
                 counts = f.counts;
@@ -329,6 +353,7 @@ module _ {S : Type 0} (left : S → Option (List ℕ)) (c_old : Cutter S) (zone 
                 fault_front = (f.fault_front.0, sym ending_is ∙ f.fault_front.1);
               };
               counted = λ needs. f.counted needs ∙ counts_are;
+              cut = cuts text (before l.run end.0) answered recorded l.given l.into_file l.next f.counts (counts_line recorded answered) FileFailed OutputFailed Failed e told le counts_are f.told;
               said_all = λ never.
                   let all : answered ≡ length l.run.recorded = le.all_answered (λ o. never (one o)) in
                   let whole = f.whole (λ o. never (two o)) in

@@ -4,7 +4,7 @@ use Rattle.std.specs.Io.KnownBytes.{append_known}
 use Rattle.afd_records.specs.File.{counts_of}
 use Rattle.rep_wire.specs.declared.request.Entry.{Entry}
 use Rattle.rep_core.specs.History.{days_of, bodies_of}
-use Rattle.rep_top.specs.Printing.{IsLeast, IsGreatest, IsFront}
+use Rattle.rep_top.specs.Printing.{IsLeast, IsGreatest, IsStrictFront}
 
 -- what the history's records add up to: how many there are of each type, their first day and their last
 pub record IsSummary (h : List Entry) (counts : List ℕ) (first last : ℕ) : Type 0 where
@@ -18,11 +18,11 @@ pub record PutsOn (old new : Option (List ℕ)) (held kept text : List ℕ) : Ty
   pub appended : new ≡ append_known old put
   pub whole : held ++ text ≡ put ++ kept
 
--- a front of the text was appended
+-- a front of the text was appended, which lacks a byte at least
 pub record PutsFront (old new : Option (List ℕ)) (text : List ℕ) : Type 0 where
   pub put : List ℕ
   pub appended : new ≡ append_known old put
-  pub front : IsFront put text
+  pub front : IsStrictFront put text
 
 -- The text was put behind what was held, or where the sink failed, a front of both.
 abbrev pub Puts : {E : Type 0} → Option (List ℕ) → Option (List ℕ) → List ℕ → List ℕ → List ℕ → Result (Unit {0}) E → Type 0

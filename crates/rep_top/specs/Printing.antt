@@ -125,6 +125,10 @@ counts_text (line ∷ lines) answered = run_text 1 answered answered 0 (suc (len
 abbrev pub IsFront : List ℕ → List ℕ → Type 0
 IsFront front text = (rest : List ℕ) × (text ≡ front ++ rest)
 
+-- the text begins with the front, and goes on behind it
+abbrev pub IsStrictFront : List ℕ → List ℕ → Type 0
+IsStrictFront front text = (rest : List ℕ) × (rest ≢ []) × (text ≡ front ++ rest)
+
 -- What stands on the output: the replies that were answered wholly; a front of the next; a front of the counts' line;
 -- and a front of what the ending says.
 pub record Says {zone : ℤ} (run : Run zone) (answered : ℕ) (ending : Ending) (said : List ℕ) : Type 0 where
@@ -198,6 +202,19 @@ abbrev pub IsWholeOrNone : {zone : ℤ} → List ℕ → Run zone → List ℕ �
 IsWholeOrNone text run given written =
     WritesNothing run given written ⊎ ((writes : WritesFile text run given written) × (written ≡ writes.file))
 
+-- A piece that was due was cut: the reply behind those that were answered wholly, the AFD, or the counts' line.
+abbrev pub IsCutShort : {zone : ℤ} → List ℕ → Run zone → ℕ → List ℕ → List ℕ → List ℕ → List ℕ → Type 0
+IsCutShort text run answered given written next counts =
+    IsStrictFront next (concat (drop answered run.replies))
+    ⊎ ((writes : WritesFile text run given written) × IsStrictFront written writes.file)
+    ⊎ IsStrictFront counts (counts_text run.recorded answered)
+
+-- nothing of the text is refused: it has an operator's head, no line behind it is refused, and it isn't too long
+pub record IsAcceptable (zone : ℤ) (text : List ℕ) : Type 0 where
+  pub short : length text ≤ longest_text
+  pub headed : HasNoHead (lines_of text) → ⊥
+  pub lines : (run : Run zone) → IsStopped text run → ⊥
+
 -- A whole run of the command: from the text to the status, the readings that the clock gave, the bytes of the AFD's
 -- file and those of the output, where the file's sink and that of the output may have failed.
 pub record Prints (zone : ℤ) (text : List ℕ) (status : ℕ) (given written said : List ℕ) (FileFailed OutputFailed : Type 0) : Type 0 where
@@ -209,5 +226,6 @@ pub record Prints (zone : ℤ) (text : List ℕ) (status : ℕ) (given written s
   pub ends : EndsBy text run answered given written ending
   pub says : Says run answered ending said
   pub counted : NeedsCounts ending → says.counts ≡ counts_text run.recorded answered
+  pub cut : ending ≡ SinkFault → IsCutShort text run answered given written says.next says.counts
   pub said_all : (OutputFailed → ⊥) → SaysAll run answered ending said
   pub written_all : (FileFailed → ⊥) → IsWholeOrNone text run given written

@@ -1,5 +1,5 @@
 -- What the parts of a run of `print` leave: words of this crate's own functions.
-use Rattle.std.specs.Prelude.{◌≡◌, ℕ, List, [], ◌∷◌, ◌++◌, length, take, drop, Option, ℤ}
+use Rattle.std.specs.Prelude.{◌≡◌, ◌⊎◌, ℕ, List, [], ◌∷◌, ◌++◌, length, take, drop, Option, ℤ}
 use Rattle.std.specs.List.{concat}
 use Rattle.std.specs.Io.KnownBytes.{append_known}
 use Rattle.rep_io.specs.Streams.{IsReading}
@@ -7,7 +7,7 @@ use Rattle.rep_io.specs.Cutter.{Cutter}
 use Rattle.rep_core.specs.Core.{Kept, Stands}
 use Rattle.rep_wire.specs.declared.request.Entry.{Entry}
 use Rattle.rep_top.specs.LaneText.{HasRead}
-use Rattle.rep_top.specs.Printing.{Run, IsFront, IsPrintedFile, IsInOrder, EndsBy, IsAllRecorded, IsWholeOrNone, Prints}
+use Rattle.rep_top.specs.Printing.{Run, IsFront, IsStrictFront, WritesFile, IsPrintedFile, IsInOrder, EndsBy, IsAllRecorded, IsWholeOrNone, Prints}
 use Rattle.rep_top.specs.declared.ending.Ending.{Ending}
 use Rattle.rep_top.specs.declared.ending.Ending.TheVariants.{Whole, NoHead, Refused, SourceFault, SinkFault, ClockFault, NoMemory, TooLong}
 
@@ -25,7 +25,8 @@ pub record Makes (zone : ℤ) (h : List Entry) (old new file_old file_new : Opti
 abbrev pub Closes : ℤ → List Entry → Option (List ℕ) → Option (List ℕ) → Option (List ℕ) → Option (List ℕ) → Ending → Type 0
 Closes zone h old new file_old file_new Whole =
     (bytes : List ℕ) × (makes : Makes zone h old new file_old file_new bytes) × (bytes ≡ makes.file)
-Closes zone h old new file_old file_new SinkFault = (bytes : List ℕ) × Makes zone h old new file_old file_new bytes
+Closes zone h old new file_old file_new SinkFault =
+    (bytes : List ℕ) × (makes : Makes zone h old new file_old file_new bytes) × IsStrictFront bytes makes.file
 Closes zone h old new file_old file_new ClockFault = (new ≡ old) × (file_new ≡ file_old)
 Closes zone h old new file_old file_new NoHead = ⊥
 Closes zone h old new file_old file_new Refused = ⊥
@@ -46,11 +47,13 @@ before run behind = record {
 }
 
 -- how the lane of a run ends, by its text
-pub record LaneEnds {zone : ℤ} (text : List ℕ) (run : Run zone) (answered : ℕ) (given written : List ℕ) (FileFailed OutputFailed : Type 0) (ending : Ending) : Type 0 where
+pub record LaneEnds {zone : ℤ} (text : List ℕ) (run : Run zone) (answered : ℕ) (given written next : List ℕ) (FileFailed OutputFailed : Type 0) (ending : Ending) : Type 0 where
   pub in_order : IsInOrder text run
   pub ends : EndsBy text run answered given written ending
   pub whole_or_none : (FileFailed → ⊥) → IsWholeOrNone text run given written
   pub all_answered : (OutputFailed → ⊥) → answered ≡ length run.recorded
+  pub cut : ending ≡ SinkFault → IsStrictFront next (concat (drop answered run.replies))
+      ⊎ ((writes : WritesFile text run given written) × IsStrictFront written writes.file)
   pub not_all : ending ≡ NoMemory → IsAllRecorded text run → ⊥
 
 -- A lane was recorded, and closed by its AFD where it came to its end.
@@ -66,7 +69,7 @@ pub record Laned {S : Type 0} (left : S → Option (List ℕ)) (cutter : Cutter 
   pub next_front : IsFront next (concat (drop answered run.replies))
   pub said : out_new ≡ append_known out_old (concat (take answered run.replies) ++ next)
   pub ends : (text : List ℕ) → HasRead left cutter text []
-      → (behind : List (List ℕ)) × LaneEnds text (before run behind) answered given into_file FileFailed OutputFailed ending
+      → (behind : List (List ℕ)) × LaneEnds text (before run behind) answered given into_file next FileFailed OutputFailed ending
 
 -- A whole run of the command, over one source, one file, a clock and an output.
 pub record Ran {S : Type 0} (left : S → Option (List ℕ)) (cutter : Cutter S) (zone : ℤ) (status : ℕ)

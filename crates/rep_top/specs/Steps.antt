@@ -22,7 +22,7 @@ use Rattle.rep_io.specs.Cutter.{Cutter}
 use Rattle.rep_top.specs.LaneText.{ended_lines, IsWithin, HasRead}
 use Rattle.rep_top.specs.Lane.{IsTaken, IsRefused, Records, MayStand}
 use Rattle.rep_top.specs.Output.{employer_line}
-use Rattle.rep_top.specs.Printing.{StopsAt, IsFront}
+use Rattle.rep_top.specs.Printing.{StopsAt, IsFront, IsStrictFront}
 use Rattle.rep_top.specs.declared.ending.Ending.{Ending}
 use Rattle.rep_top.specs.declared.ending.Ending.TheVariants.{Whole, NoHead, Refused, SourceFault, SinkFault, ClockFault, NoMemory, TooLong}
 
@@ -86,7 +86,7 @@ abbrev pub TriesLine : ℤ → LaneHead → ℕ → List Entry → List ℕ → 
 TriesLine zone head number h line core old new out_old out_new (Ok done) =
     (answer : List ℕ) × Goes zone head number h line core old new out_old out_new answer answer
 TriesLine zone head number h line core old new out_old out_new (Err SinkFault) =
-    (answer : List ℕ) × (front : List ℕ) × IsFront front answer × Goes zone head number h line core old new out_old out_new front answer
+    (answer : List ℕ) × (front : List ℕ) × IsStrictFront front answer × Goes zone head number h line core old new out_old out_new front answer
 TriesLine zone head number h line core old new out_old out_new (Err Refused) =
     IsRefused head number h line × Stays h core old new out_old out_new
 TriesLine zone head number h line core old new out_old out_new (Err NoMemory) = Stays h core old new out_old out_new
@@ -155,7 +155,7 @@ TakesNext left c_old c_new zone head number h core old new out_old out_new (Ok d
     (line : List ℕ) × (answer : List ℕ) × Goes zone head number h line core old new out_old out_new answer answer
     × NextOf left c_old (λ text before. HasRead left c_new text (before ++ line ∷ []))
 TakesNext left c_old c_new zone head number h core old new out_old out_new (Err SinkFault) =
-    (line : List ℕ) × (answer : List ℕ) × (front : List ℕ) × IsFront front answer
+    (line : List ℕ) × (answer : List ℕ) × (front : List ℕ) × IsStrictFront front answer
     × Goes zone head number h line core old new out_old out_new front answer
     × NextOf left c_old (λ text before. HasMore text (before ++ line ∷ []))
 TakesNext left c_old c_new zone head number h core old new out_old out_new (Err Refused) =
@@ -193,6 +193,7 @@ pub record UnderWay {S : Type 0} (left : S → Option (List ℕ)) (c_old c_new :
 pub record Ended {S : Type 0} (left : S → Option (List ℕ)) (c_old : Cutter S) (zone : ℤ) (head : LaneHead) (core : Kept)
     (old new out_old out_new : Option (List ℕ)) (ending : Ending) (answered : ℕ) : Type 0 where
   pub recorded : Recorded zone head core answered old new out_old out_new
+  pub cut : ending ≡ SinkFault → IsStrictFront recorded.next (concat (drop answered recorded.replies))
   pub ends : (text first : List ℕ) → HasRead left c_old text (first ∷ [])
       → (behind : List (List ℕ)) × (lines_of text ≡ first ∷ recorded.lines ++ behind)
       × EndsLane head text recorded.lines behind recorded.history answered ending

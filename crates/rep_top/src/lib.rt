@@ -14,6 +14,12 @@ mod program;
 mod reading;
 mod recording;
 mod rig;
+#[cfg(test)]
+mod tests;
+#[cfg(test)]
+mod tests_faults;
+#[cfg(test)]
+mod tests_refused;
 mod words;
 
 pub use program::top;

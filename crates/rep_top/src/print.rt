@@ -26,6 +26,7 @@ pub fn close_lane<K: Sink, C: Clock>(book: &Book, file: &mut K, clock: &mut C) -
     ensures clock_fault { result ≡ Ending.ClockFault → Rose (C.faults clock.old) (C.faults clock.new) }
     ensures file_later { K.faults file.old ≤ K.faults file.new }
     ensures file_fault { result ≡ Ending.SinkFault → Rose (K.faults file.old) (K.faults file.new) }
+    ensures file_kept { result ≡ Ending.ClockFault → file.new ≡ file.old }
 {
     let Ok(minute) = clock.now() else {
         return Ending::ClockFault;
@@ -62,6 +63,7 @@ pub fn print_lane<S: Source, K: Sink, C: Clock>(
     ensures out_later { K.faults out.old ≤ K.faults out.new }
     ensures sink_fault { result.0 ≡ Ending.SinkFault
         → Rose (K.faults file.old) (K.faults file.new) ⊎ Rose (K.faults out.old) (K.faults out.new) }
+    ensures file_kept { (result.0 ≡ Ending.Whole → ⊥) → (result.0 ≡ Ending.SinkFault → ⊥) → file.new ≡ file.old }
 {
     match first_line(lines) {
         Err(ending) => (ending, 0),
@@ -97,6 +99,7 @@ pub fn run_print<S: Source, K: Sink, C: Clock>(
     ensures out_later { K.faults out.old ≤ K.faults out.new }
     ensures sink_fault { result ≡ 5
         → Rose (K.faults file.old) (K.faults file.new) ⊎ Rose (K.faults out.old) (K.faults out.new) }
+    ensures file_kept { (result ≡ 0 → ⊥) → (result ≡ 5 → ⊥) → file.new ≡ file.old }
     ensures not_words { result ≡ 2 → ⊥ }
 {
     let (ending, answered) = print_lane(book, lines, file, clock, out);

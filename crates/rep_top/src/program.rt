@@ -1,9 +1,10 @@
-ghost use Rattle.std.specs.Prelude.{◌≡◌, ◌⊎◌, ℤ, List, [], map, string_bytes};
+ghost use Rattle.std.specs.Prelude.{◌≡◌, ◌⊎◌, ℤ, ℕ, List, [], Some, map, string_bytes};
 ghost use Rattle.rep_io.specs.Causes.{Rose};
 ghost use Rattle.rep_fields.specs.Moment.{IsOffset};
 ghost use Rattle.afd_records.specs.Record.{last_nsr};
 ghost use Rattle.rep_core.specs.Core.{Stands};
 ghost use Rattle.rep_top.specs.Words.{IsPrint, IsOnGrammar};
+ghost use Rattle.rep_top.specs.Printing.{IsAcceptable};
 ghost use Rattle.rep_top.specs.Rigged.{Rigged, Printed};
 ghost use Rattle.rep_top.specs.Output.{fault_text};
 ghost use Rattle.rep_top.specs.FinishSteps.{SaysLine};
@@ -49,6 +50,19 @@ pub fn top<S: Source, K: Sink, C: Clock>(
         before.source before.file rig.out before.watch after.file result.rig.out after.watch }
     ensures rigged { IsOnGrammar (map string_bytes words.now)
         → Rigged result.rig.texts.items result.rig.outs.items result.rig.clock }
+    // Where no AFD is written, its file isn't opened.
+    ensures unopened { (result.status ≡ 0 → ⊥) → (result.status ≡ 5 → ⊥)
+        → (before : Rigged rig.texts.items rig.outs.items rig.clock)
+        → (after : Rigged result.rig.texts.items result.rig.outs.items result.rig.clock)
+        → after.file ≡ before.file }
+    // Where nothing is refused and nothing of the outside fails, the AFD is made, unless memory is short.
+    ensures complete { (zone : ℤ) (text : List ℕ) → IsPrint (map string_bytes words.now) zone
+        → (before : Rigged rig.texts.items rig.outs.items rig.clock)
+        → (after : Rigged result.rig.texts.items result.rig.outs.items result.rig.clock)
+        → S.left before.source ≡ Some text → IsAcceptable zone text
+        → ¬ Rose (S.faults before.source) (S.faults after.source) → ¬ Rose (C.faults before.watch) (C.faults after.watch)
+        → ¬ Rose (K.faults before.file) (K.faults after.file) → ¬ Rose (K.faults rig.out) (K.faults result.rig.out)
+        → (result.status ≡ 0) ⊎ (result.status ≡ 8) }
     ensures source_fault { result.status ≡ 4 → (before : Rigged rig.texts.items rig.outs.items rig.clock)
         → (after : Rigged result.rig.texts.items result.rig.outs.items result.rig.clock)
         → Rose (S.faults before.source) (S.faults after.source) }
@@ -94,6 +108,10 @@ fn print_over<S: Source, K: Sink, C: Clock>(
     ensures sink_fault { result.status ≡ 5 → (before : Rigged rig.texts.items rig.outs.items rig.clock)
         → (after : Rigged result.rig.texts.items result.rig.outs.items result.rig.clock)
         → Rose (K.faults before.file) (K.faults after.file) ⊎ Rose (K.faults rig.out) (K.faults result.rig.out) }
+    ensures unopened { (result.status ≡ 0 → ⊥) → (result.status ≡ 5 → ⊥)
+        → (before : Rigged rig.texts.items rig.outs.items rig.clock)
+        → (after : Rigged result.rig.texts.items result.rig.outs.items result.rig.clock)
+        → after.file ≡ before.file }
     ensures not_words { result.status ≡ 2 → ⊥ }
 {
     let Some(source) = rig.texts.pop() else {

@@ -2,7 +2,7 @@ use Rattle.std.proofs.Common.{◌≡◌, ◌≤◌, ℕ, [], inl, inr, refl, sym
 use Rattle.std.proofs.lemmas.Bool.{false≢true}
 use Rattle.rep_top.specs.FinishSteps.{counts_line}
 use Rattle.rep_top.proofs.LaneLemmas.{append_known-nil}
-use Rattle.rep_top.proofs.FinishLemmas.{counts_line-some, counts_whole, says_front}
+use Rattle.rep_top.proofs.FinishLemmas.{counts_line-some, counts_whole, says_front, counts_cut}
 use Rattle.rep_top.proofs.finish.say_counts.Goals as goal
 
 pub returns-then-recorded-eq0-clause-says : goal.returns-then-recorded-eq0-clause-says
@@ -23,11 +23,8 @@ returns-then-needs_counts-clause-says g c =
     let piece : c.bytes.result.now ≡ counts_line c.args.recorded c.args.answered =
     c.bytes.ensures.value ∙ c.run_line.ensures ∙ sym (counts_line-some c.args.recorded c.args.answered some) in
     let b = c.in-Err.ensures.bytes in
-    record {
-      line = says_front (counts_line c.args.recorded c.args.answered) c.bytes.result.now b.0 _ _ _ piece b.2 c.in-Err.ensures.cause.failed;
-      counted = λ needs. absurd needs;
-      told = inr (refl, c.needs_counts.ensures.0 c.if-needs_counts.true, c.in-Err.ensures.cause.failed, some);
-    }
+    counts_cut c.args.ending c.args.answered c.args.recorded c.bytes.result.now b.0 _ _ _ piece b.1 b.2 c.in-Err.ensures.cause.failed
+    (c.needs_counts.ensures.0 c.if-needs_counts.true) some
 
 pub returns-else-needs_counts-clause-says : goal.returns-else-needs_counts-clause-says
 returns-else-needs_counts-clause-says g c =

@@ -32,7 +32,8 @@ returns-in-Err-clause-closes g c h stands =
         readings = tick.1;
         file = afd.file;
         printed = afd.printed;
-        front = afd.whole;
+        front = (afd.whole.0, afd.whole.2);
         written = afd.appended;
       },
+      afd.whole,
     )

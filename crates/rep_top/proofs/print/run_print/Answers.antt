@@ -1,7 +1,7 @@
 use Rattle.std.proofs.Common.{◌≡◌, ◌∙◌, ℕ, length, sym, subst, arith}
 use Rattle.rep_io.specs.Causes.{Rose}
 use Rattle.rep_top.specs.RunSteps.{Ran}
-use Rattle.rep_top.proofs.FinishLemmas.{rose-wider}
+use Rattle.rep_top.proofs.FinishLemmas.{rose-wider, ended_otherwise}
 use Rattle.rep_top.proofs.RunLemmas.{ran}
 use Rattle.rep_top.proofs.print.run_print.Goals as goal
 
@@ -19,3 +19,8 @@ returns-clause-ran g c =
     _ _ _ _ _ _ _ _ _ _ _ lane.result.0 c.finish-told.result l c.finish-told.ensures.says count
     (rose-wider (g.K.Sink.faults c.args.out.now) (g.K.Sink.faults c.args.out.now) (g.K.Sink.faults lane.new.out) (g.K.Sink.faults c.finish-told.new.out) (omega arith) c.finish-told.ensures.later)
     (rose-wider (g.K.Sink.faults c.args.out.now) (g.K.Sink.faults lane.new.out) (g.K.Sink.faults c.finish-told.new.out) (g.K.Sink.faults c.finish-told.new.out) lane.ensures.out_later (omega arith)))
+
+pub returns-clause-file_kept : goal.returns-clause-file_kept
+returns-clause-file_kept g c zero five =
+    ended_otherwise c.print_lane-ending.result.0 _ _ _ _ c.finish-told.result _ c.finish-told.ensures.says.told
+    (λ same. zero (c.status.ensures ∙ same)) (λ same. five (c.status.ensures ∙ same)) c.print_lane-ending.ensures.file_kept

@@ -1,8 +1,9 @@
-use Rattle.std.proofs.Common.{◌≡◌, ℕ, List, take, drop, refl, sym, ap, ◌∙◌, take-append-drop}
+use Rattle.std.proofs.Common.{◌≡◌, ◌<◌, ℕ, List, length, take, drop, refl, sym, ap, subst, ◌∙◌, take-append-drop}
 use Rattle.std.specs.Io.KnownBytes.{append_known}
 use Rattle.rep_fields.specs.Moment.{moment_at}
 use Rattle.rep_wire.specs.Reply.{reply_text}
 use Rattle.rep_core.specs.Answered.{recorded_after}
+use Rattle.rep_top.proofs.FileLemmas.{drop_some}
 use Rattle.rep_top.proofs.recording.take_line.Goals as goal
 
 pub returns-in-Err-put_all-clause-tries : goal.returns-in-Err-put_all-clause-tries
@@ -14,7 +15,7 @@ returns-in-Err-put_all-clause-tries g c h stands =
     let piece : c.bytes.result.now ≡ answer = c.bytes.ensures.value ∙ c.reply_line.ensures in (
       answer,
       take b.0 answer,
-      (drop b.0 answer, sym (take-append-drop b.0 answer)),
+      (drop b.0 answer, drop_some b.0 answer (subst (λ (p : List ℕ). b.0 < length p) piece b.1), sym (take-append-drop b.0 answer)),
       record {
         minute = t.minute;
         after = recorded_after h c.in-Some.q (moment_at t.minute c.args.book.now.zone);

@@ -1,0 +1,4 @@
+pub mod Key
+pub mod Site
+pub mod Reading
+pub mod Parts

@@ -1,0 +1,4 @@
+pub mod Keys
+pub mod Spelled
+pub mod Found
+pub mod FirstOff

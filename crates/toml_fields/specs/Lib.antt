@@ -1,0 +1,4 @@
+pub mod Answering
+pub mod Table
+pub mod Spelling
+pub mod Fields
