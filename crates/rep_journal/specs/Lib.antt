@@ -1,0 +1,9 @@
+pub mod Head
+pub mod Scan
+pub mod Finding
+pub mod Format
+pub mod Listed
+pub mod State
+pub mod Recovery
+pub mod Outcome
+pub mod Fields

@@ -1,0 +1,30 @@
+-- What a pass over a piece of contents finds: this project's own.
+use Rattle.std.specs.Prelude.{◌≡◌, ◌≢◌, ℕ, ◌<◌, ◌≤◌, Bool, true, false, List, [], ◌∷◌, ◌++◌, length, Option, Some, None}
+use Rattle.rep_journal.specs.Format.{Framed, IsFrame, AreFrames, frame_text, frames_text, open_gate}
+use Rattle.rep_journal.specs.declared.stop.Stop.{Stop}
+use Rattle.rep_journal.specs.declared.stop.Stop.TheVariants.{Closed, Broken, Cut}
+
+-- a whole frame and a gate byte stand at the front of the bytes
+abbrev pub HasFrame : List ℕ → Framed → Type 0
+HasFrame bytes frame = IsFrame frame × ((gate : ℕ) × (more : List ℕ) × (bytes ≡ frame_text frame ++ gate ∷ more))
+
+abbrev pub ReadsFrame : List ℕ → Option Framed → Type 0
+ReadsFrame bytes (Some frame) = HasFrame bytes frame
+ReadsFrame bytes None = (frame : Framed) → HasFrame bytes frame → ⊥
+
+-- What stands where a pass stops. Where the contents go on behind the piece, it judges a gate only where the longest
+-- frame and a gate byte have room behind it.
+abbrev pub IsStop : Bool → List ℕ → Stop → Type 0
+IsStop is_last rest Closed = (gate : ℕ) × (more : List ℕ) × (gate ≢ open_gate) × (rest ≡ gate ∷ more)
+IsStop is_last rest Broken = (more : List ℕ) × (rest ≡ open_gate ∷ more) × (is_last ≡ false → 344 ≤ length more) × ReadsFrame more None
+IsStop is_last rest Cut = (is_last ≡ false) × (length rest ≤ 344)
+
+-- the piece is the text of new frames, and then that of the stop
+pub record TakesFrames (piece : List ℕ) (is_last : Bool) (old new : List Framed) (stop : Stop) : Type 0 where
+  pub taken : List Framed
+  pub frames : new ≡ old ++ taken
+  pub well_formed : AreFrames taken
+  pub rest : List ℕ
+  pub some : 0 < length rest
+  pub text : piece ≡ frames_text taken ++ rest
+  pub stops : IsStop is_last rest stop

@@ -1,0 +1,77 @@
+//! The frames of contents.
+ghost use Rattle.std.specs.Prelude.{◌≡◌, ◌≢◌, ◌+◌, length, IfErr, IfOk, IfSome};
+ghost use Rattle.rep_io.specs.Causes.{Rose};
+ghost use Rattle.rep_journal.specs.Head.{IsOpen};
+ghost use Rattle.rep_journal.specs.State.{IsKeptBy, IsRead};
+ghost use Rattle.rep_journal.specs.Recovery.{RestsFrom};
+ghost use Rattle.rep_journal.specs.Finding.{Finds};
+
+use crate::error::WhyNot;
+use crate::format::MOST_FRAMES;
+use crate::frame_list::FrameList;
+use crate::head::{Head, read_head};
+use crate::scan::take_frames;
+use crate::stop::Stop;
+use rep_disk::Disk;
+use std::alloc::{AllocError, Global};
+
+/// How many bytes are read at a time.
+const PIECE: usize = 65_536;
+
+fn zeros(alloc: Global) -> Result<Vec<u8>, AllocError>
+    ensures { IfOk result (λ v. length v.items ≡ 65536) }
+{
+    vec![in alloc; 0; PIECE]
+}
+
+/// Reads the frames of contents that have the magic and an open first gate.
+fn read_frames<D: Disk>(alloc: Global, disk: &mut D) -> Result<FrameList, WhyNot>
+    requires { IfSome (D.shown disk.old).contents IsOpen }
+    ensures finds { Finds (D.shown disk.old).contents result }
+    ensures not_present { IfErr result (λ why. why ≢ WhyNot.Present) }
+    ensures kept { IsRead (D.shown disk.old) (D.shown disk.new) }
+    ensures cause { IfErr result (λ why. why ≡ WhyNot.DeviceFault → Rose (D.shown disk.old).faults (D.shown disk.new).faults) }
+{
+    let Ok(mut buffer) = zeros(alloc) else {
+        return Err(WhyNot::OutOfMemory);
+    };
+    let mut list = FrameList::new(alloc);
+    while list.count() < MOST_FRAMES {
+        let Ok(count) = disk.read_at(list.end(), &mut buffer) else {
+            return Err(WhyNot::DeviceFault);
+        };
+        if count == 0 {
+            return Err(WhyNot::Damaged { at: list.end() });
+        }
+        let Ok(stop) = take_frames(&buffer[..count], count < PIECE, &mut list) else {
+            return Err(WhyNot::OutOfMemory);
+        };
+        match stop {
+            Stop::Closed => return Ok(list),
+            Stop::Broken => return Err(WhyNot::Damaged { at: list.end() }),
+            Stop::Cut => {}
+        }
+    }
+    Err(WhyNot::OutOfMemory)
+}
+
+/// Makes sure of the contents, and reads their frames.
+pub(crate) fn find<D: Disk>(alloc: Global, disk: &mut D) -> Result<FrameList, WhyNot>
+    ensures finds { Finds (D.shown disk.old).contents result }
+    ensures not_present { IfErr result (λ why. why ≢ WhyNot.Present) }
+    ensures kept { IsKeptBy (D.shown disk.old) (D.shown disk.new) }
+    ensures rest { IfOk result (λ list. RestsFrom ((D.shown disk.old).moment + 2) (D.shown disk.new)) }
+    ensures cause { IfErr result (λ why. why ≡ WhyNot.DeviceFault → Rose (D.shown disk.old).faults (D.shown disk.new).faults) }
+{
+    if disk.sync().is_err() {
+        return Err(WhyNot::DeviceFault);
+    }
+    let Ok(head) = read_head(disk) else {
+        return Err(WhyNot::DeviceFault);
+    };
+    match head {
+        Head::Short | Head::Closed => Err(WhyNot::Blank),
+        Head::Foreign => Err(WhyNot::Foreign),
+        Head::Open => read_frames(alloc, disk),
+    }
+}
