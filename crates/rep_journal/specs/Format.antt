@@ -34,10 +34,16 @@ abbrev pub AreFrames : List Framed → Type 0
 AreFrames [] = Unit {0}
 AreFrames (frame ∷ frames) = IsFrame frame × AreFrames frames
 
--- a frame: length (2 bytes), origin (2), sequence number (8), line
+-- a number in two bytes and in eight, the highest byte first
+unfoldable pub two_bytes : ℕ → List ℕ
+two_bytes n = to_be_bytes w16 n
+
+unfoldable pub eight_bytes : ℕ → List ℕ
+eight_bytes n = to_be_bytes w64 n
+
+-- a frame: the length of its line (2 bytes), origin (2), sequence number (8), line
 unfoldable pub frame_text : Framed → List ℕ
-frame_text frame =
-    concat (to_be_bytes w16 (length frame.line) ∷ to_be_bytes w16 frame.origin ∷ to_be_bytes w64 frame.seq ∷ frame.line ∷ [])
+frame_text frame = concat (two_bytes (length frame.line) ∷ two_bytes frame.origin ∷ eight_bytes frame.seq ∷ frame.line ∷ [])
 
 -- frames, each behind an open gate
 abbrev pub frames_text : List Framed → List ℕ

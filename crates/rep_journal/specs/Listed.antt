@@ -1,5 +1,5 @@
 -- The frames that are kept in memory: this project's own.
-use Rattle.std.specs.Prelude.{◌≡◌, ℕ, ◌+◌, ◌-◌, ◌*◌, ◌≤◌, min, List, [], ◌∷◌, length}
+use Rattle.std.specs.Prelude.{◌≡◌, ℕ, ◌+◌, ◌*◌, ◌≤◌, List, [], ◌∷◌, length}
 use Rattle.rep_journal.specs.Format.{Framed, AreFrames, frame_text, end_of}
 
 pub record Listed : Type 0 where
@@ -19,11 +19,6 @@ end_of_journals = 16 + 344 * most_frames
 abbrev pub gates_from : ℕ → List Framed → List ℕ
 gates_from at [] = []
 gates_from at (frame ∷ frames) = at ∷ gates_from (at + (1 + length (frame_text frame))) frames
-
--- the room in the two lists, as far as a journal goes
-abbrev pub room_in : List Framed → ℕ → ℕ → ℕ
-room_in frames frames_capacity gates_capacity =
-    min (min frames_capacity gates_capacity - length frames) (most_frames - length frames)
 
 pub record IsListed (frames : List Framed) (gates : List ℕ) (end : ℕ) : Type 0 where
   pub well_formed : AreFrames frames

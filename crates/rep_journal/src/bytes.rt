@@ -1,6 +1,5 @@
 ghost use Rattle.std.specs.Prelude.{◌≡◌, ◌+◌, ◌≤◌, [], ◌∷◌, ◌++◌, length};
-ghost use Rattle.std.specs.Int.{w16, w64, to_be_bytes};
-ghost use Rattle.rep_journal.specs.Format.{IsFrame, frame_text};
+ghost use Rattle.rep_journal.specs.Format.{IsFrame, eight_bytes, frame_text, two_bytes};
 
 use crate::format::{CLOSED_GATE, LONGEST_STAGE};
 use crate::frame::Frame;
@@ -45,23 +44,26 @@ impl Stage {
         self.size = end;
     }
 
+    #[tactic(auto, unfolding(crate::specs::Format::two_bytes))]
     fn push_u16(&mut self, number: u16)
         requires { length self.old + 2 ≤ 344 }
-        ensures value { self.new ≡ self.old ++ to_be_bytes w16 number }
+        ensures value { self.new ≡ self.old ++ two_bytes number }
         ensures size { length self.new ≡ length self.old + 2 }
     {
         self.push(&number.to_be_bytes());
     }
 
+    #[tactic(auto, unfolding(crate::specs::Format::eight_bytes))]
     fn push_u64(&mut self, number: u64)
         requires { length self.old + 8 ≤ 344 }
-        ensures value { self.new ≡ self.old ++ to_be_bytes w64 number }
+        ensures value { self.new ≡ self.old ++ eight_bytes number }
         ensures size { length self.new ≡ length self.old + 8 }
     {
         self.push(&number.to_be_bytes());
     }
 
     /// The frame's bytes and a closed gate.
+    #[tactic(auto, unfolding(crate::specs::Format::frame_text))]
     pub fn of(frame: &Frame) -> Stage
         ensures text { result ≡ frame_text frame.now ++ 0 ∷ [] }
         ensures size { length result ≡ 13 + length frame.now.line }

@@ -19,12 +19,16 @@ pub(crate) struct FrameList {
 }
 
 impl Model for FrameList {
-    ghost use Rattle.std.specs.Prelude.{vec_capacity};
-    ghost use Rattle.rep_journal.specs.Listed.{Listed, room_in, IsListed};
+    ghost use Rattle.std.specs.Prelude.{◌-◌, min, vec_capacity, vec_len};
+    ghost use Rattle.rep_journal.specs.Listed.{Listed, IsListed, most_frames};
 
     ghost Value = { Listed };
 
-    ghost view = { λ l. record { frames = l.frames.items; room = room_in l.frames.items (vec_capacity l.frames) (vec_capacity l.gates) } };
+    // room in both lists, as far as a journal goes
+    ghost view = { λ l. record {
+      frames = l.frames.items;
+      room = min (vec_capacity l.frames - vec_len l.frames) (min (vec_capacity l.gates - vec_len l.gates) (most_frames - vec_len l.frames));
+    } };
 
     ghost invariant = { λ l. IsListed l.frames.items l.gates.items l.end };
 }

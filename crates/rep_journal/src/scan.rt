@@ -1,6 +1,6 @@
 //! One pass over a piece of contents.
 ghost use Rattle.std.specs.Prelude.{◌≡◌, ◌<◌, length, IfOk};
-ghost use Rattle.std.specs.Int.{w16, w64, to_be_bytes};
+ghost use Rattle.rep_journal.specs.Format.{eight_bytes, two_bytes};
 ghost use Rattle.rep_journal.specs.Scan.{ReadsFrame, TakesFrames};
 
 use crate::format::{HEAD_SIZE, LONGEST_STAGE, OPEN_GATE};
@@ -9,16 +9,18 @@ use crate::frame_list::FrameList;
 use crate::stop::Stop;
 use rep_io::OutOfMemory;
 
+#[tactic(auto, unfolding(crate::specs::Format::two_bytes))]
 fn read_u16(bytes: &[u8]) -> u16
     requires { length bytes.now ≡ 2 }
-    ensures { bytes.now ≡ to_be_bytes w16 result }
+    ensures { bytes.now ≡ two_bytes result }
 {
     u16::from_be_bytes([bytes[0], bytes[1]])
 }
 
+#[tactic(auto, unfolding(crate::specs::Format::eight_bytes))]
 fn read_u64(bytes: &[u8]) -> u64
     requires { length bytes.now ≡ 8 }
-    ensures { bytes.now ≡ to_be_bytes w64 result }
+    ensures { bytes.now ≡ eight_bytes result }
 {
     u64::from_be_bytes([
         bytes[0], bytes[1], bytes[2], bytes[3], bytes[4], bytes[5], bytes[6], bytes[7],

@@ -1,0 +1,4 @@
+mod FormatLemmas
+mod KindLemmas
+mod ListLemmas
+mod UniqueLemmas
