@@ -1,4 +1,6 @@
 mod FormatLemmas
 mod KindLemmas
 mod ListLemmas
+mod MomentLemmas
+mod PutLemmas
 mod UniqueLemmas
