@@ -3,9 +3,10 @@ use Rattle.std.proofs.Common.{◌≡◌, ◌≢◌, ◌⊎◌, inl, inr, ℕ, su
 use Rattle.std.specs.Prelude.{IfSome, IsSome, MatchResult, is_err}
 use Rattle.std.proofs.lemmas.List.{take_at, drop_at, take_all, append-nil, drop_more}
 use Rattle.std.proofs.lemmas.Bool.{cases_eq, cases_lt}
-use Rattle.rep_disk.specs.Disk.{Shown, Torn, Written, Writes, Changes, last_moment}
+use Rattle.rep_disk.specs.Disk.{Shown, Torn, Written, Writes, Changes, IsWithin, last_moment}
 use Rattle.rep_journal.specs.Format.{magic, open_gate, Framed, IsFrame, AreFrames, frame_text, frames_text, front_text, end_of, IsJournalOf, IsBlank}
 use Rattle.rep_journal.specs.State.{StandsFor, Becomes, IsWithOrWithout, MakesCalls, CountsCalls}
+use Rattle.rep_journal.proofs.KindLemmas.{journal_length}
 use Rattle.rep_journal.proofs.FormatLemmas.{length-magic, length-front_text, length-frame_text, front_text-push, are_frames-push}
 
 -- the front of a list as far as a place that it has
@@ -151,3 +152,8 @@ more_calls old mid new (Err e) a b = let some = b.1 in let most = b.2 in let mom
 pub calls_within : {T E : Type 0} (n : ℕ) (old new : Shown) (result : Result T E) → CountsCalls n old new result → (old.moment ≤ new.moment) × (new.moment ≤ old.moment + 2 * n)
 calls_within n old new (Ok v) a = (omega arith, omega arith)
 calls_within n old new (Err e) a = let most = a.2 in let moment = a.3 in (omega arith, omega arith)
+
+-- the gate behind the frames lies in told contents
+pub within_journal : (contents : Option (List ℕ)) (fs : List Framed) → StandsFor contents fs → IsWithin (end_of fs + 1) contents
+within_journal None fs stands = tt
+within_journal (Some bytes) fs stands = let h = journal_length bytes fs stands in omega arith

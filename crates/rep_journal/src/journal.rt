@@ -38,7 +38,7 @@ impl<D: Disk> Model for Journal<D> {
 
 impl<D: Disk> Journal<D> {
     ghost use Rattle.rep_journal.specs.Format.{BrokenAt, IsBlank, IsForeign, IsOfKind, IsPresent, Keeps, gate_at};
-    ghost use Rattle.rep_journal.specs.State.{Appends, Begins, FailsToBegin, IsKeptBy, IsRead, IsSame, StopsAt};
+    ghost use Rattle.rep_journal.specs.State.{Appends, Begins, FailsToBegin, IsKeptBy, IsRead, IsSame, IsSettled, StopsAt};
     ghost use Rattle.rep_journal.specs.Recovery.{Creates, Puts, RestsFrom};
     ghost use Rattle.rep_journal.specs.Outcome.{Refuses};
     ghost use Rattle.rep_journal.specs.Fields.{IsBlankBy};
@@ -167,6 +167,7 @@ impl<D: Disk> Journal<D> {
     pub fn count(&self) -> u32
         ensures count { result ≡ length self.now.frames }
         ensures within { result ≤ most_frames }
+        ensures settled { IsSettled self.now.frames (D.shown self.now.disk) }
     {
         self.list.count()
     }
@@ -253,7 +254,8 @@ impl<D: Disk> Journal<D> {
 
     /// The disk.
     pub fn into_disk(self) -> D
-        ensures { result ≡ self.disk }
+        ensures disk { result ≡ self.disk }
+        ensures settled { IsSettled self.frames (D.shown result) }
     {
         self.disk
     }
