@@ -43,7 +43,7 @@ pub one_broken : (bytes : List ℕ) (at other : ℕ) → BrokenAt bytes at → B
 one_broken bytes at other a b =
     a.place
     ∙ ap end_of (same_broken a.before b.before a.rest b.rest a.well_formed b.well_formed (none_behind bytes at a) (none_behind bytes other b)
-      (behind_magic a.before (open_gate ∷ a.rest) _ (sym a.text ∙ b.text ∙ append_assoc magic (frames_text b.before) (open_gate ∷ b.rest))))
+    (behind_magic a.before (open_gate ∷ a.rest) _ (sym a.text ∙ b.text ∙ append_assoc magic (frames_text b.before) (open_gate ∷ b.rest))))
     ∙ sym b.place
 
 pub one_kind : (bytes : List ℕ) (kind other : Kind) → IsOfKind bytes kind → IsOfKind bytes other → kind ≡ other
@@ -188,7 +188,7 @@ more_closed gate bytes f next rest is_open h e end = record {
   closed = end.closed;
   more = end.more;
   text = ap (λ (l : List ℕ). gate ∷ l) (e ∙ ap (λ (l : List ℕ). frame_text f ++ l) end.text ∙ sym (append_assoc (frame_text f) (frames_text end.frames) (end.gate ∷ end.more)))
-  ∙ ap (λ (n : ℕ). n ∷ ((frame_text f ++ frames_text end.frames) ++ end.gate ∷ end.more)) is_open;
+      ∙ ap (λ (n : ℕ). n ∷ ((frame_text f ++ frames_text end.frames) ++ end.gate ∷ end.more)) is_open;
 }
 
 more_broken : (gate : ℕ) (bytes : List ℕ) (f : Framed) (next : ℕ) (rest : List ℕ) → gate ≡ open_gate → IsFrame f → bytes ≡ frame_text f ++ next ∷ rest → BrokenEnd (next ∷ rest) → BrokenEnd (gate ∷ bytes)
@@ -198,7 +198,7 @@ more_broken gate bytes f next rest is_open h e end = record {
   more = end.more;
   none = end.none;
   text = ap (λ (l : List ℕ). gate ∷ l) (e ∙ ap (λ (l : List ℕ). frame_text f ++ l) end.text ∙ sym (append_assoc (frame_text f) (frames_text end.frames) (open_gate ∷ end.more)))
-  ∙ ap (λ (n : ℕ). n ∷ ((frame_text f ++ frames_text end.frames) ++ open_gate ∷ end.more)) is_open;
+      ∙ ap (λ (n : ℕ). n ∷ ((frame_text f ++ frames_text end.frames) ++ open_gate ∷ end.more)) is_open;
 }
 
 scan_shut : (gate : ℕ) (bytes : List ℕ) → (gate ≡ open_gate → ⊥) → ClosedEnd (gate ∷ bytes)
@@ -238,27 +238,29 @@ of_magic : (bytes rest : List ℕ) → 17 < length bytes → bytes ≡ magic ++ 
 of_magic bytes [] long e = absurd (omega (arith, ap length e, length-append magic [], length-magic))
 of_magic bytes (gate ∷ more) long e = elim (scan (length more) gate more (omega arith)) [
   | inl end ↦ of_closed bytes end.frames (record {
-      well_formed = end.well_formed;
-      gate = end.gate;
-      closed = end.closed;
-      rest = end.more;
-      text = e ∙ ap (λ (l : List ℕ). magic ++ l) end.text ∙ sym (append_assoc magic (frames_text end.frames) (end.gate ∷ end.more));
-    })
+    well_formed = end.well_formed;
+    gate = end.gate;
+    closed = end.closed;
+    rest = end.more;
+    text = e ∙ ap (λ (l : List ℕ). magic ++ l) end.text ∙ sym (append_assoc magic (frames_text end.frames) (end.gate ∷ end.more));
+  })
   | inr end ↦
-      let text : bytes ≡ front_text end.frames ++ open_gate ∷ end.more = e ∙ ap (λ (l : List ℕ). magic ++ l) end.text ∙ sym (append_assoc magic (frames_text end.frames) (open_gate ∷ end.more)) in
-      (Damaged (end_of end.frames), record {
-        not_blank = λ blank. elim blank [
-          | inl short ↦ omega arith
-          | inr j ↦ not_both [] end.frames j.gate j.rest end.more tt end.well_formed j.closed end.none
-              (behind_magic [] (j.gate ∷ j.rest) _ (sym j.text ∙ text ∙ append_assoc magic (frames_text end.frames) (open_gate ∷ end.more)))
-        ];
-        before = end.frames;
-        well_formed = end.well_formed;
-        rest = end.more;
-        text = text;
-        place = refl;
-        broken = λ frame next behind h is. end.none frame (h, (next, behind, is));
-      })
+      let text : bytes ≡ front_text end.frames ++ open_gate ∷ end.more = e ∙ ap (λ (l : List ℕ). magic ++ l) end.text ∙ sym (append_assoc magic (frames_text end.frames) (open_gate ∷ end.more)) in (
+        Damaged (end_of end.frames),
+        record {
+          not_blank = λ blank. elim blank [
+            | inl short ↦ omega arith
+            | inr j ↦ not_both [] end.frames j.gate j.rest end.more tt end.well_formed j.closed end.none
+                (behind_magic [] (j.gate ∷ j.rest) _ (sym j.text ∙ text ∙ append_assoc magic (frames_text end.frames) (open_gate ∷ end.more)))
+          ];
+          before = end.frames;
+          well_formed = end.well_formed;
+          rest = end.more;
+          text = text;
+          place = refl;
+          broken = λ frame next behind h is. end.none frame (h, (next, behind, is));
+        },
+      )
 ]
 
 pub some_kind : (bytes : List ℕ) → (kind : Kind) × IsOfKind bytes kind
@@ -266,9 +268,12 @@ some_kind bytes = elim (cases_lt 17 (length bytes)) [
   | inr short ↦ (Blank, inl short)
   | inl long ↦ elim (same_or_not (take 16 bytes) magic) [
     | inl is ↦ of_magic bytes (drop 16 bytes) long (sym (take-append-drop 16 bytes) ∙ ap (λ (l : List ℕ). l ++ drop 16 bytes) is)
-    | inr other ↦ (Foreign, record {
+    | inr other ↦ (
+      Foreign,
+      record {
         not_blank = λ blank. elim blank [ inl short ↦ omega arith | inr j ↦ other (front_is bytes (journal_magic bytes [] j)) ];
         no_magic = λ has. other (front_is bytes has);
-      })
+      },
+    )
   ]
 ]

@@ -1,3 +1,4 @@
+mod BlankLemmas
 mod FormatLemmas
 mod KindLemmas
 mod ListLemmas

@@ -36,7 +36,7 @@ module _ (fs : List Framed) where
     closed = j.closed;
     rest = drop (end_of fs + 1) new;
     text = front_of old new (front_text fs ++ j.gate ∷ []) j.rest (end_of fs + 1) (j.text ∙ sym (append_assoc (front_text fs) (j.gate ∷ []) j.rest)) (omega (arith, length-append (front_text fs) (j.gate ∷ []), length-front_text fs)) torn.before
-    ∙ append_assoc (front_text fs) (j.gate ∷ []) (drop (end_of fs + 1) new);
+        ∙ append_assoc (front_text fs) (j.gate ∷ []) (drop (end_of fs + 1) new);
   }
 
   pub written_behind : (f : Framed) (old new : List ℕ) → IsFrame f → IsJournalOf old fs → Written (end_of fs + 1) (frame_text f ++ 0 ∷ []) old new → IsStaged new fs f
@@ -50,10 +50,10 @@ module _ (fs : List Framed) where
         closed = j.closed;
         rest = rest;
         text = w
-        ∙ ap (λ (l : List ℕ). l ++ (frame_text f ++ 0 ∷ []) ++ rest) before
-        ∙ append_assoc (front_text fs ++ j.gate ∷ []) (frame_text f ++ 0 ∷ []) rest
-        ∙ append_assoc (front_text fs) (j.gate ∷ []) ((frame_text f ++ 0 ∷ []) ++ rest)
-        ∙ ap (λ (l : List ℕ). front_text fs ++ j.gate ∷ l) (append_assoc (frame_text f) (0 ∷ []) rest);
+            ∙ ap (λ (l : List ℕ). l ++ (frame_text f ++ 0 ∷ []) ++ rest) before
+            ∙ append_assoc (front_text fs ++ j.gate ∷ []) (frame_text f ++ 0 ∷ []) rest
+            ∙ append_assoc (front_text fs) (j.gate ∷ []) ((frame_text f ++ 0 ∷ []) ++ rest)
+            ∙ ap (λ (l : List ℕ). front_text fs ++ j.gate ∷ l) (append_assoc (frame_text f) (0 ∷ []) rest);
       }
 
   -- the frame behind any gate counts or it doesn't
@@ -95,11 +95,11 @@ module _ (fs : List Framed) where
         closed = λ zero. absurd (omega (arith, zero));
         rest = s.rest;
         text = w
-        ∙ ap (λ (l : List ℕ). l ++ (open_gate ∷ []) ++ drop (end_of fs + 1) old) before
-        ∙ append_assoc (front_text fs) (open_gate ∷ []) (drop (end_of fs + 1) old)
-        ∙ ap (λ (l : List ℕ). front_text fs ++ open_gate ∷ l) behind
-        ∙ sym (append_assoc (front_text fs) (open_gate ∷ frame_text f) (0 ∷ s.rest))
-        ∙ ap (λ (l : List ℕ). l ++ 0 ∷ s.rest) (sym (front_text-push fs f));
+            ∙ ap (λ (l : List ℕ). l ++ (open_gate ∷ []) ++ drop (end_of fs + 1) old) before
+            ∙ append_assoc (front_text fs) (open_gate ∷ []) (drop (end_of fs + 1) old)
+            ∙ ap (λ (l : List ℕ). front_text fs ++ open_gate ∷ l) behind
+            ∙ sym (append_assoc (front_text fs) (open_gate ∷ frame_text f) (0 ∷ s.rest))
+            ∙ ap (λ (l : List ℕ). l ++ 0 ∷ s.rest) (sym (front_text-push fs f));
       }
 
 -- told contents before and after a step

@@ -32,6 +32,15 @@ pub record PutMoments (frames : List Framed) (frame : Framed) (old new : Shown) 
 abbrev pub Puts : List Framed → Framed → Shown → Shown → Type 0
 Puts frames frame old new = IsSome old.contents → new.moment < last_moment → PutMoments frames frame old new
 
+-- The images while the magic is written: each is blank.
+pub record BlankMoments (old new : Shown) : Type 0 where
+  pub past : KeepsPast old new
+  pub images : (m : ℕ) (image : List ℕ) → old.moment ≤ m → m ≤ new.moment → new.may_leave m image → IsBlank image
+
+-- where the disk tells its contents and is at rest
+abbrev pub Blanks : Shown → Shown → Type 0
+Blanks old new = IsSome old.contents → IsAtRest old → new.moment < last_moment → BlankMoments old new
+
 -- The images while a journal is made: each is blank, or has the first frame.
 pub record CreateMoments (first : Framed) (old new : Shown) : Type 0 where
   pub past : KeepsPast old new

@@ -1,10 +1,10 @@
 //! What `create` and `put` write.
-ghost use Rattle.std.specs.Prelude.{◌≡◌, ◌↔◌, ◌+◌, ◌≤◌, List, [], ◌∷◌, ◌++◌, length, OnErr, OnOk, MatchResult};
+ghost use Rattle.std.specs.Prelude.{◌≡◌, ◌↔◌, ◌+◌, ◌≤◌, List, [], ◌∷◌, ◌++◌, ◌⊎◌, length, OnOk, MatchResult};
 ghost use Rattle.rep_io.specs.Causes.{HasCause};
 ghost use Rattle.rep_disk.specs.Disk.{Changes, IsAtRest, IsOwnImage, IsWithin, Moves, Torn, Writes, end_of_disk};
-ghost use Rattle.rep_journal.specs.Format.{Framed, end_of};
-ghost use Rattle.rep_journal.specs.State.{Becomes, CountsCalls, FailsToBegin, IsWithOrWithout, StandsFor};
-ghost use Rattle.rep_journal.specs.Recovery.{Creates, Puts};
+ghost use Rattle.rep_journal.specs.Format.{Framed, IsBlank, IsJournalOf, end_of};
+ghost use Rattle.rep_journal.specs.State.{Becomes, CountsCalls, IsWithOrWithout, StandsFor};
+ghost use Rattle.rep_journal.specs.Recovery.{Blanks, Creates, Puts};
 ghost use Rattle.rep_journal.specs.Fields.{IsBlankBy, room_of_frame};
 
 use crate::bytes::Stage;
@@ -52,20 +52,41 @@ pub(crate) fn append<D: Disk>(disk: &mut D, end: u64, frame: &Frame) -> Result<(
     write_and_sync(disk, end, &[OPEN_GATE])
 }
 
+/// Writes the magic and a closed gate over contents of at most 17 bytes, and makes sure of them. Where the contents
+/// are longer, and so have both, it does nothing.
+fn write_blank<D: Disk>(disk: &mut D, is_short: bool) -> Result<(), Failed>
+    requires blank { IsBlankBy is_short (D.shown disk.old) }
+    requires room { 17 ≤ (D.shown disk.old).spare }
+    ensures contents { MatchResult result
+        (λ _. Becomes [] (D.shown disk.old).contents (D.shown disk.new).contents)
+        (λ _. Changes (λ _ bytes. IsBlank bytes) (D.shown disk.old).contents (D.shown disk.new).contents) }
+    ensures rest { IsAtRest (D.shown disk.old) → OnOk result (IsAtRest (D.shown disk.new)) }
+    ensures spare { (D.shown disk.old).spare ≤ (D.shown disk.new).spare + 17 }
+    ensures later { (D.shown disk.old).moment ≤ (D.shown disk.new).moment }
+    ensures crash { Blanks (D.shown disk.old) (D.shown disk.new) }
+    ensures own { IsOwnImage (D.shown disk.old) ↔ IsOwnImage (D.shown disk.new) }
+    ensures cause { HasCause (D.shown disk.old).faults (D.shown disk.new).faults result }
+{
+    if is_short {
+        write_and_sync(disk, 0, &BLANK)
+    } else {
+        Ok(())
+    }
+}
+
 /// Writes the magic and a closed gate, where that is still to be done, and then the first frame.
 pub(crate) fn begin<D: Disk>(disk: &mut D, is_short: bool, first: &Frame) -> Result<(), Failed>
     requires blank { IsBlankBy is_short (D.shown disk.old) }
     requires room { 17 + room_of_frame ≤ (D.shown disk.old).spare }
-    ensures begun { OnOk result (Becomes (first.now ∷ []) (D.shown disk.old).contents (D.shown disk.new).contents) }
+    ensures contents { MatchResult result
+        (λ _. Becomes (first.now ∷ []) (D.shown disk.old).contents (D.shown disk.new).contents)
+        (λ _. Changes (λ _ bytes. IsBlank bytes ⊎ IsJournalOf bytes (first.now ∷ [])) (D.shown disk.old).contents (D.shown disk.new).contents) }
     ensures rest { OnOk result (IsAtRest (D.shown disk.new)) }
-    ensures failed { OnErr result (FailsToBegin first.now (D.shown disk.old) (D.shown disk.new)) }
     ensures later { (D.shown disk.old).moment ≤ (D.shown disk.new).moment }
     ensures crash { Creates first.now (D.shown disk.old) (D.shown disk.new) }
     ensures own { IsOwnImage (D.shown disk.old) ↔ IsOwnImage (D.shown disk.new) }
     ensures cause { HasCause (D.shown disk.old).faults (D.shown disk.new).faults result }
 {
-    if is_short {
-        write_and_sync(disk, 0, &BLANK)?;
-    }
+    write_blank(disk, is_short)?;
     append(disk, FIRST_GATE, first)
 }

@@ -10,7 +10,7 @@ returns-in_err-write_and_sync-clause-contents g c =
     λ frames is stands.
     err_match c.from_residual.result _ _ c.from_residual.ensures.0
     (not_staged frames c.args.frame.now c.of-stage.ensures.well_formed (length c.bytes.result.now) (g.D.Disk.shown c.args.disk.now).contents (g.D.Disk.shown c.write_and_sync.new.disk).contents stands
-      (subst (λ (n : ℕ). Changes (Torn (n + 1) (length c.bytes.result.now)) (g.D.Disk.shown c.args.disk.now).contents (g.D.Disk.shown c.write_and_sync.new.disk).contents) is c.in_err-write_and_sync.ensures.contents))
+    (subst (λ (n : ℕ). Changes (Torn (n + 1) (length c.bytes.result.now)) (g.D.Disk.shown c.args.disk.now).contents (g.D.Disk.shown c.write_and_sync.new.disk).contents) is c.in_err-write_and_sync.ensures.contents))
 
 pub returns-in_err-write_and_sync-clause-crash : goal.returns-in_err-write_and_sync-clause-crash
 returns-in_err-write_and_sync-clause-crash g c =
