@@ -5,7 +5,7 @@ use Rattle.std.proofs.lemmas.Bool.{cases_lt}
 use Rattle.rep_disk.specs.Disk.{Shown, Torn, Moves, Moved, KeepsPast, IsAtRest, last_moment}
 use Rattle.rep_journal.specs.Format.{Framed, IsFrame, end_of, IsJournalOf, IsBlank}
 use Rattle.rep_journal.specs.State.{StandsFor, IsWithOrWithout, MakesCalls}
-use Rattle.rep_journal.specs.Recovery.{Stands, IsLeast, NeverFalls, PutMoments, Puts}
+use Rattle.rep_journal.specs.Recovery.{ImageStandsFor, LeavesAtLeast, NeverFalls, PutMoments, Puts}
 use Rattle.rep_journal.proofs.KindLemmas.{one_journal, kept_not_blank}
 use Rattle.rep_journal.proofs.PutLemmas.{IsStaged, torn_behind, torn_gate}
 
@@ -32,39 +32,50 @@ moved_has step P Q old new told p rest moved le before same stepped m image from
 ]
 
 -- an image that has frames stands for these alone
-pub one_standing : (image : List ℕ) (fs gs : List Framed) → IsJournalOf image fs → Stands image gs → gs ≡ fs
+pub one_standing : (image : List ℕ) (fs gs : List Framed) → IsJournalOf image fs → ImageStandsFor image gs → gs ≡ fs
 one_standing image fs gs j (inl k) = one_journal image gs fs k j
 one_standing image [] gs j (inr blank) = blank.0
 one_standing image (f ∷ fs) gs j (inr blank) = absurd (kept_not_blank image (f ∷ fs) j (λ e. cc) blank.1)
 
-least_is : (least : ℕ) (s : Shown) (m : ℕ) (fs : List Framed) → ((image : List ℕ) → s.may_leave m image → IsJournalOf image fs) → IsLeast least s m → least ≡ length fs
-least_is least s m fs all h =
-    let r = h.reached in
-    sym r.4 ∙ ap length (one_standing r.0 fs r.1 (all r.0 r.2) r.3)
+-- The number of frames never falls in a step from images that stand for some to images that stand for no fewer.
+pub moved_never_falls : (fs : List Framed) (step : List ℕ → List ℕ → Type 0) (old new : Shown) → Moved step old new → ((image : List ℕ) → old.may_leave old.moment image → ImageStandsFor image fs)
+    → ((m : ℕ) (image : List ℕ) → old.moment < m → m ≤ new.moment → new.may_leave m image → (gs : List Framed) → ImageStandsFor image gs → length fs ≤ length gs) → NeverFalls old new
+moved_never_falls fs step old new moved start no_fewer least m later from after to lower image gs leaves stands = elim (cases_lt old.moment m) [
+  | inl behind ↦ lower image gs (moved.settles m later image behind after to leaves) stands
+  | inr now ↦
+      let here : m ≡ old.moment = omega arith in
+      elim (cases_lt old.moment later) [
+        | inl goes_on ↦
+            let was = moved.images later image goes_on to leaves in
+            let left : new.may_leave m was.0 = (moved.past m was.0 now).1 (subst (λ (n : ℕ). old.may_leave n was.0) (sym here) was.1) in
+            let few = lower was.0 fs left (start was.0 was.1) in
+            let more = no_fewer later image goes_on to leaves gs stands in
+            omega arith
+        | inr stays ↦
+            let same : later ≡ m = omega arith in
+            lower image gs (subst (λ (n : ℕ). new.may_leave n image) same leaves) stands
+      ]
+]
+
+-- and so in two steps, one after the other
+pub never_falls_on : (old mid new : Shown) → KeepsPast mid new → old.moment ≤ mid.moment → mid.moment ≤ new.moment → NeverFalls old mid → NeverFalls mid new → NeverFalls old new
+never_falls_on old mid new past le le_later first second least m later from after to lower image gs leaves stands = elim (cases_lt mid.moment later) [
+  | inr early ↦ first least m later from after early (λ i g left s. lower i g ((past m i (omega arith)).1 left) s) image gs ((past later image early).0 leaves) stands
+  | inl late ↦ elim (cases_lt mid.moment m) [
+    | inl behind ↦ second least m later (omega arith) after to lower image gs leaves stands
+    | inr ahead ↦
+        let at_mid : LeavesAtLeast least new mid.moment = λ i g left s. first least m mid.moment from ahead (omega arith) (λ j h was t. lower j h ((past m j ahead).1 was) t) i g ((past mid.moment i (omega arith)).0 left) s in
+        second least mid.moment later (omega arith) (omega arith) to at_mid image gs leaves stands
+  ]
+]
+
+pub past_on : (old mid new : Shown) → old.moment ≤ mid.moment → KeepsPast old mid → KeepsPast mid new → KeepsPast old new
+past_on old mid new le first second m image at = ((λ leaves. (first m image at).0 ((second m image (omega arith)).0 leaves)), (λ leaves. (second m image (omega arith)).1 ((first m image at).1 leaves)))
 
 module _ (fs : List Framed) (f : Framed) where
-  with_or_without : (image : List ℕ) (gs : List Framed) → IsWithOrWithout fs f image → Stands image gs → length fs ≤ length gs
+  with_or_without : (image : List ℕ) (gs : List Framed) → IsWithOrWithout fs f image → ImageStandsFor image gs → length fs ≤ length gs
   with_or_without image gs (inl j) s = let e = ap length (one_standing image fs gs j s) in omega arith
   with_or_without image gs (inr j) s = let e = ap length (one_standing image (fs ++ f ∷ []) gs j s) in omega (arith, length-append fs (f ∷ []))
-
-  -- Up to some moment each image has the frames, then these or one more, and none that there was not before.
-  pub never_falls : (old new : Shown) (mid : ℕ) → ((m : ℕ) (image : List ℕ) → old.moment ≤ m → m ≤ mid → m ≤ new.moment → new.may_leave m image → IsJournalOf image fs)
-      → ((m : ℕ) (image : List ℕ) → old.moment ≤ m → m ≤ new.moment → new.may_leave m image → IsWithOrWithout fs f image)
-      → ((m later : ℕ) (image : List ℕ) → mid < m → m ≤ later → later ≤ new.moment → new.may_leave later image → new.may_leave m image)
-      → NeverFalls old new
-  never_falls old new mid closed opened settles m later least least_later from after to h k = elim (cases_lt mid m) [
-    | inl behind ↦
-        let r = k.reached in
-        let le = h.bound r.0 r.1 (settles m later r.0 behind after to r.2) r.3 in
-        let is = r.4 in
-        omega arith
-    | inr ahead ↦
-        let is = least_is least new m fs (λ image leaves. closed m image from ahead (omega arith) leaves) h in
-        let r = k.reached in
-        let le = with_or_without r.0 r.1 (opened later r.0 (omega arith) to r.2) r.3 in
-        let reached = r.4 in
-        omega arith
-  ]
 
   -- after the first write and its sync, or where one of the two failed
   pub staged_moments : (size : ℕ) (old new : Shown) → IsSome old.contents → StandsFor old.contents fs → IsAtRest old → Moves (Torn (end_of fs + 1) size) old new
@@ -76,7 +87,8 @@ module _ (fs : List Framed) (f : Framed) where
         past = moved.past;
         closed = λ m image from four to leaves. images m image from to leaves;
         opened = λ m image from to leaves. inl (images m image from to leaves);
-        sure = never_falls old new (old.moment + 4) (λ m image from four to leaves. images m image from to leaves) (λ m image from to leaves. inl (images m image from to leaves)) (λ m later image behind after to leaves. absurd (omega arith));
+        sure = moved_never_falls fs (Torn (end_of fs + 1) size) old new moved (λ image leaves. inl (rest_has old (λ b. IsJournalOf b fs) told stands rest (omega arith) image leaves))
+        (λ m image from to leaves gs s. with_or_without image gs (inl (images m image (omega arith) to leaves)) s);
       }
 
   -- after the second write and its sync, or where one of these two failed
@@ -85,17 +97,16 @@ module _ (fs : List Framed) (f : Framed) where
   opened_moments size old mid new told stands rest moves le is told_mid staged rest_mid moves_mid le_mid before =
       let first = staged_moments size old mid told stands rest moves le (omega arith) (omega arith) in
       let moved = moves_mid before in
-      let here : (image : List ℕ) → IsStaged image fs f → IsWithOrWithout fs f image = λ image s. inl (record { well_formed = s.well_formed; gate = s.gate; closed = s.closed; rest = _; text = s.text }) in
-      let later = moved_has (Torn (end_of fs) 1) (λ b. IsStaged b fs f) (λ b. IsWithOrWithout fs f b) mid new told_mid staged rest_mid moved le_mid before here (λ was image s torn. torn_gate fs f was image s torn) in
-      let closed : (m : ℕ) (image : List ℕ) → old.moment ≤ m → m ≤ old.moment + 4 → m ≤ new.moment → new.may_leave m image → IsJournalOf image fs = λ m image from four to leaves.
-      first.closed m image from four (omega arith) ((moved.past m image (omega arith)).0 leaves) in
-      let opened : (m : ℕ) (image : List ℕ) → old.moment ≤ m → m ≤ new.moment → new.may_leave m image → IsWithOrWithout fs f image = λ m image from to leaves. elim (cases_lt mid.moment m) [
-        | inl behind ↦ later m image (omega arith) to leaves
-        | inr ahead ↦ first.opened m image from ahead ((moved.past m image ahead).0 leaves)
-      ] in
+      let still : (image : List ℕ) → IsStaged image fs f → IsJournalOf image fs = λ image s. record { well_formed = s.well_formed; gate = s.gate; closed = s.closed; rest = _; text = s.text } in
+      let later = moved_has (Torn (end_of fs) 1) (λ b. IsStaged b fs f) (λ b. IsWithOrWithout fs f b) mid new told_mid staged rest_mid moved le_mid before (λ image s. inl (still image s)) (λ was image s torn. torn_gate fs f was image s torn) in
       record {
-        past = λ m image at. ((λ leaves. (first.past m image at).0 ((moved.past m image (omega arith)).0 leaves)), (λ leaves. (moved.past m image (omega arith)).1 ((first.past m image at).1 leaves)));
-        closed = closed;
-        opened = opened;
-        sure = never_falls old new (old.moment + 4) closed opened (λ m after image behind le_after to leaves. moved.settles m after image (omega arith) le_after to leaves);
+        past = past_on old mid new le first.past moved.past;
+        closed = λ m image from four to leaves. first.closed m image from four (omega arith) ((moved.past m image (omega arith)).0 leaves);
+        opened = λ m image from to leaves. elim (cases_lt mid.moment m) [
+          | inl behind ↦ later m image (omega arith) to leaves
+          | inr ahead ↦ first.opened m image from ahead ((moved.past m image ahead).0 leaves)
+        ];
+        sure = never_falls_on old mid new moved.past le le_mid first.sure
+        (moved_never_falls fs (Torn (end_of fs) 1) mid new moved (λ image leaves. inl (still image (rest_has mid (λ b. IsStaged b fs f) told_mid staged rest_mid (omega arith) image leaves)))
+          (λ m image from to leaves gs s. with_or_without image gs (later m image (omega arith) to leaves) s));
       }

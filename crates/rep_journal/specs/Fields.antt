@@ -1,5 +1,5 @@
 -- What the fields of a frame, a vacant disk and a journal keep: this project's own.
-use Rattle.std.specs.Prelude.{◌≡◌, ℕ, ◌+◌, ◌*◌, ◌≤◌, Bool, List, [], length, take, IfSome, MatchBool}
+use Rattle.std.specs.Prelude.{◌≡◌, ℕ, ◌+◌, ◌*◌, ◌<◌, ◌≤◌, Bool, List, [], length, take, IfSome, MatchBool}
 use Rattle.rep_disk.specs.Disk.{Shown}
 use Rattle.rep_journal.specs.Format.{Framed, IsFrame, IsJournalOf}
 use Rattle.rep_journal.specs.Listed.{Listed}
@@ -18,9 +18,14 @@ pub record IsKeptFrame (origin seq : ℕ) (cells : List ℕ) (size : ℕ) : Type
 abbrev pub room_of_frame : ℕ
 room_of_frame = 345
 
--- told contents are blank: at most 17 bytes, or the magic with a closed first gate
+-- more than 17 bytes, with the magic and a closed first gate
+pub record IsLongBlank (bytes : List ℕ) : Type 0 where
+  pub long : 17 < length bytes
+  pub none : IsJournalOf bytes []
+
+-- told contents are blank: at most 17 bytes, or more, with the magic and a closed first gate
 abbrev pub IsBlankBy : Bool → Shown → Type 0
-IsBlankBy is_short s = IfSome s.contents (λ bytes. MatchBool is_short (length bytes ≤ 17) (IsJournalOf bytes []))
+IsBlankBy is_short s = IfSome s.contents (λ bytes. MatchBool is_short (length bytes ≤ 17) (IsLongBlank bytes))
 
 -- the contents are blank, and there is room for the magic and the first frame
 pub record IsVacant (s : Shown) (is_short : Bool) (list : Listed) : Type 0 where

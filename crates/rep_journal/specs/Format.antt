@@ -14,6 +14,10 @@ magic = codes "REP-P JOURNAL 1" ++ 10 ∷ []
 abbrev pub open_gate : ℕ
 open_gate = 165
 
+-- the closed gate that is written
+abbrev pub closed_gate : ℕ
+closed_gate = 0
+
 -- a line of the AFD, without CR LF, and who asked for it by which number
 pub record Framed : Type 0 where
   pub origin : ℕ

@@ -1,6 +1,7 @@
 -- How contents begin: this project's own.
 use Rattle.std.specs.Prelude.{◌≡◌, ◌≢◌, ℕ, ◌<◌, ◌≤◌, List, [], ◌∷◌, ◌++◌, length, take}
-use Rattle.rep_journal.specs.Format.{IsBlank, IsForeign, IsJournalOf, magic, open_gate}
+use Rattle.rep_journal.specs.Format.{IsForeign, magic, open_gate}
+use Rattle.rep_journal.specs.Fields.{IsLongBlank}
 use Rattle.rep_journal.specs.declared.head.Head.{Head}
 use Rattle.rep_journal.specs.declared.head.Head.TheVariants.{Short, Foreign, Closed, Open}
 
@@ -13,5 +14,5 @@ pub record IsOpen (bytes : List ℕ) : Type 0 where
 abbrev pub IsHead : List ℕ → Head → Type 0
 IsHead bytes Short = length bytes ≤ 17
 IsHead bytes Foreign = IsForeign bytes
-IsHead bytes Closed = IsJournalOf bytes []
+IsHead bytes Closed = IsLongBlank bytes
 IsHead bytes Open = IsOpen bytes

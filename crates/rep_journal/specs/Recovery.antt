@@ -6,19 +6,17 @@ use Rattle.rep_journal.specs.Format.{Framed, IsJournalOf, IsBlank}
 use Rattle.rep_journal.specs.State.{IsWithOrWithout}
 
 -- an image is a journal of these frames, or blank, which counts as no frames
-abbrev pub Stands : List ℕ → List Framed → Type 0
-Stands image frames = IsJournalOf image frames ⊎ ((frames ≡ []) × IsBlank image)
+abbrev pub ImageStandsFor : List ℕ → List Framed → Type 0
+ImageStandsFor image frames = IsJournalOf image frames ⊎ ((frames ≡ []) × IsBlank image)
 
--- the least number of frames for which an image at a moment stands
-pub record IsLeast (least : ℕ) (s : Shown) (m : ℕ) : Type 0 where
-  pub reached : (image : List ℕ) × (frames : List Framed) × s.may_leave m image × Stands image frames × (length frames ≡ least)
-  pub bound : (image : List ℕ) (frames : List Framed) → s.may_leave m image → Stands image frames → least ≤ length frames
+-- each image at a moment has at least so many frames
+abbrev pub LeavesAtLeast : ℕ → Shown → ℕ → Type 0
+LeavesAtLeast least s m = (image : List ℕ) (frames : List Framed) → s.may_leave m image → ImageStandsFor image frames → least ≤ length frames
 
--- from the old moment to the new one, that number never falls
+-- that number of frames never falls, from the old moment to the new one
 abbrev pub NeverFalls : Shown → Shown → Type 0
 NeverFalls old new =
-    (m later least least_later : ℕ) → old.moment ≤ m → m ≤ later → later ≤ new.moment → IsLeast least new m
-    → IsLeast least_later new later → least ≤ least_later
+    (least m later : ℕ) → old.moment ≤ m → m ≤ later → later ≤ new.moment → LeavesAtLeast least new m → LeavesAtLeast least new later
 
 -- The images while a frame is put. Up to the end of the first two device calls each has the frames from before, and
 -- then it has these or the new one too.
@@ -36,6 +34,7 @@ Puts frames frame old new = IsSome old.contents → new.moment < last_moment →
 pub record BlankMoments (old new : Shown) : Type 0 where
   pub past : KeepsPast old new
   pub images : (m : ℕ) (image : List ℕ) → old.moment ≤ m → m ≤ new.moment → new.may_leave m image → IsBlank image
+  pub sure : NeverFalls old new
 
 -- where the disk tells its contents and is at rest
 abbrev pub Blanks : Shown → Shown → Type 0
@@ -51,8 +50,8 @@ pub record CreateMoments (first : Framed) (old new : Shown) : Type 0 where
 abbrev pub Creates : Framed → Shown → Shown → Type 0
 Creates first old new = IsSome old.contents → IsAtRest old → new.moment < last_moment → CreateMoments first old new
 
--- from this moment on the contents, where they are told, are the only image
+-- that moment has been, and from it on the contents, where they are told, are the only image
 abbrev pub RestsFrom : ℕ → Shown → Type 0
 RestsFrom from s =
-    s.moment < last_moment → (m : ℕ) (image : List ℕ) → from ≤ m → m ≤ s.moment → s.may_leave m image
-    → IfSome s.contents (λ bytes. image ≡ bytes)
+    s.moment < last_moment
+    → (from ≤ s.moment) × ((m : ℕ) (image : List ℕ) → from ≤ m → m ≤ s.moment → s.may_leave m image → IfSome s.contents (λ bytes. image ≡ bytes))

@@ -1,9 +1,9 @@
 -- What a journal is, as contracts see it, and what its calls do to it: this project's own.
-use Rattle.std.specs.Prelude.{◌≡◌, ◌⊎◌, ◌↔◌, Bool, if◌then◌else◌, ℕ, ◌+◌, ◌*◌, ◌<◌, ◌≤◌, List, [], ◌∷◌, ◌++◌, length, IfSome, MatchResult, Option, Result}
+use Rattle.std.specs.Prelude.{◌≡◌, ◌⊎◌, ◌↔◌, Bool, if◌then◌else◌, ℕ, ◌+◌, ◌*◌, ◌<◌, ◌≤◌, List, [], ◌∷◌, ◌++◌, length, drop, nat_le, IfSome, MatchBool, MatchResult, Option, Result}
 use Rattle.rep_io.specs.Causes.{Rose}
 use Rattle.rep_disk.specs.Disk.{Shown, AdvancesBy, Changes, IsAtRest, IsOwnImage, Moves, Same, Stays}
 use Rattle.rep_disk.specs.Memory.{counted}
-use Rattle.rep_journal.specs.Format.{Framed, IsJournalOf, IsBlank}
+use Rattle.rep_journal.specs.Format.{Framed, IsJournalOf, IsBlank, closed_gate, end_of, front_text}
 
 pub record State (D : Type 0) : Type 0 where
   pub disk : D
@@ -22,7 +22,11 @@ StandsFor contents frames = IfSome contents (λ bytes. IsJournalOf bytes frames)
 abbrev pub Becomes : List Framed → Option (List ℕ) → Option (List ℕ) → Type 0
 Becomes frames old new = Changes (λ _ bytes. IsJournalOf bytes frames) old new
 
--- the same with this frame or without it
+-- what was written of a journal of these frames: their text and a closed gate, with the old bytes behind them
+abbrev pub Leaves : List Framed → Option (List ℕ) → Option (List ℕ) → Type 0
+Leaves frames old new = Changes (λ was bytes. bytes ≡ front_text frames ++ closed_gate ∷ drop (1 + end_of frames) was) old new
+
+-- a journal of these frames, with this one more or without it
 abbrev pub IsWithOrWithout : List Framed → Framed → List ℕ → Type 0
 IsWithOrWithout frames frame bytes = IsJournalOf bytes frames ⊎ IsJournalOf bytes (frames ++ frame ∷ [])
 
@@ -30,6 +34,13 @@ IsWithOrWithout frames frame bytes = IsJournalOf bytes frames ⊎ IsJournalOf by
 pub record IsSettled (frames : List Framed) (s : Shown) : Type 0 where
   pub stands : StandsFor s.contents frames
   pub rest : IsAtRest s
+
+-- What is left where the device call of this number in a `put` failed. The first two are the write of the frame and
+-- its sync, the others those of its gate.
+pub record IsLeftAt (failed : ℕ) (frames : List Framed) (frame : Framed) (bytes : List ℕ) : Type 0 where
+  pub early : failed ≤ 2 → IsJournalOf bytes frames
+  pub late : failed ≡ 4 → IsJournalOf bytes (frames ++ frame ∷ [])
+  pub either : IsWithOrWithout frames frame bytes
 
 -- so many device calls were made
 abbrev pub MakesCalls : ℕ → Shown → Shown → Type 0
@@ -43,10 +54,18 @@ pub record IsRead (old new : Shown) : Type 0 where
   pub own : IsOwnImage old ↔ IsOwnImage new
   pub faults : old.faults ≤ new.faults
 
--- so many device calls were made, or fewer where one of them failed
+-- so many device calls were made, or one of them failed and was the last
 abbrev pub CountsCalls : {T E : Type 0} → ℕ → Shown → Shown → Result T E → Type 0
 CountsCalls calls old new result =
     MatchResult result (λ _. MakesCalls calls old new) (λ _. (n : ℕ) × (0 < n) × (n ≤ calls) × MakesCalls n old new)
+
+-- the call of this number in a `put` failed, and was the last
+pub record FailsToAppend (frames : List Framed) (frame : Framed) (old new : Shown) : Type 0 where
+  pub failed : ℕ
+  pub some : 0 < failed
+  pub within : failed ≤ 4
+  pub calls : MakesCalls failed old new
+  pub contents : Changes (λ _ bytes. IsLeftAt failed frames frame bytes) old.contents new.contents
 
 -- contents and images are as before, or a sync made sure of them
 pub record IsKeptBy (old new : Shown) : Type 0 where
@@ -67,6 +86,7 @@ pub record IsSame {D : Type 0} (shown : D → Shown) (failed : Bool) (old new : 
 pub record Appends {D : Type 0} (shown : D → Shown) (frame : Framed) (old new : State D) : Type 0 where
   pub frames : new.frames ≡ old.frames ++ frame ∷ []
   pub contents : Becomes new.frames (shown old.disk).contents (shown new.disk).contents
+  pub text : Leaves new.frames (shown old.disk).contents (shown new.disk).contents
   pub rest : IsAtRest (shown new.disk)
   pub spare : old.spare ≤ new.spare + 1
   pub faults : new.faults ≡ old.faults
@@ -74,13 +94,19 @@ pub record Appends {D : Type 0} (shown : D → Shown) (frame : Framed) (old new 
   pub own : IsOwnImage (shown old.disk) ↔ IsOwnImage (shown new.disk)
   pub disk_faults : (shown old.disk).faults ≤ (shown new.disk).faults
 
+-- the two calls for the magic are made just where the contents, if they are told, have at most 17 bytes
+abbrev pub MakesCreateCalls : Shown → Shown → Type 0
+MakesCreateCalls old new = IfSome old.contents (λ bytes. MatchBool (nat_le (length bytes) 17) (MakesCalls 6 old new) (MakesCalls 4 old new))
+
 -- a journal was made with its first frame
 pub record Begins {D : Type 0} (shown : D → Shown) (first : Framed) (old : D) (new : State D) : Type 0 where
   pub frames : new.frames ≡ first ∷ []
   pub contents : Becomes (first ∷ []) (shown old).contents (shown new.disk).contents
+  pub text : Leaves (first ∷ []) (shown old).contents (shown new.disk).contents
   pub rest : IsAtRest (shown new.disk)
   pub faults : new.faults ≡ 0
   pub later : (shown old).moment ≤ (shown new.disk).moment
+  pub calls : MakesCreateCalls (shown old) (shown new.disk)
   pub own : IsOwnImage (shown old) ↔ IsOwnImage (shown new.disk)
   pub disk_faults : (shown old).faults ≤ (shown new.disk).faults
 
@@ -88,7 +114,7 @@ pub record Begins {D : Type 0} (shown : D → Shown) (first : Framed) (old : D) 
 pub record FailsToBegin (first : Framed) (old new : Shown) : Type 0 where
   pub cause : Rose old.faults new.faults
   pub contents : Changes (λ _ bytes. IsBlank bytes ⊎ IsJournalOf bytes (first ∷ [])) old.contents new.contents
-  pub later : old.moment ≤ new.moment
+  pub calls : (n : ℕ) × (0 < n) × (n ≤ 6) × MakesCalls n old new
   pub own : IsOwnImage old ↔ IsOwnImage new
 
 -- a device call of a `put` failed: the contents have the frames from before, with the new one or without it
@@ -96,6 +122,5 @@ pub record StopsAt {D : Type 0} (shown : D → Shown) (frame : Framed) (old : St
   pub counts : faults ≡ counted old.faults
   pub cause : Rose (shown old.disk).faults (shown disk).faults
   pub had : count ≡ length old.frames
-  pub contents : Changes (λ _ bytes. IsWithOrWithout old.frames frame bytes) (shown old.disk).contents (shown disk).contents
-  pub calls : (n : ℕ) × (0 < n) × (n ≤ 4) × MakesCalls n (shown old.disk) (shown disk)
+  pub fails : FailsToAppend old.frames frame (shown old.disk) (shown disk)
   pub own : IsOwnImage (shown old.disk) ↔ IsOwnImage (shown disk)

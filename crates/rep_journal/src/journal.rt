@@ -1,4 +1,4 @@
-ghost use Rattle.std.specs.Prelude.{◌≡◌, ◌+◌, ◌<◌, ◌≤◌, ◌↔◌, ◌⊎◌, length, slice_get, Some, ℕ, ◌≢◌, is_err, IfOk, IfErr, IfSome, OnErr, OnOk, MatchResult};
+ghost use Rattle.std.specs.Prelude.{◌≡◌, ◌+◌, ◌<◌, ◌≤◌, ◌↔◌, ◌⊎◌, length, slice_get, Some, ℕ, ◌≢◌, is_err, IsSome, IfOk, IfErr, IfSome, OnErr, OnOk, MatchResult};
 ghost use Rattle.rep_io.specs.Causes.{Rose};
 ghost use Rattle.rep_disk.specs.Disk.{IsUntouched};
 
@@ -38,7 +38,7 @@ impl<D: Disk> Model for Journal<D> {
 
 impl<D: Disk> Journal<D> {
     ghost use Rattle.rep_journal.specs.Format.{BrokenAt, IsBlank, IsForeign, IsOfKind, IsPresent, Keeps, gate_at};
-    ghost use Rattle.rep_journal.specs.State.{Appends, Begins, FailsToBegin, IsKeptBy, IsRead, IsSame, IsSettled, StopsAt};
+    ghost use Rattle.rep_journal.specs.State.{Appends, Begins, FailsToBegin, IsKeptBy, IsRead, IsSame, IsSettled, MakesCalls, StopsAt};
     ghost use Rattle.rep_journal.specs.Recovery.{Creates, Puts, RestsFrom};
     ghost use Rattle.rep_journal.specs.Outcome.{Refuses};
     ghost use Rattle.rep_journal.specs.Fields.{IsBlankBy};
@@ -142,6 +142,7 @@ impl<D: Disk> Journal<D> {
     /// a journal can have.
     pub fn reopen(alloc: Global, disk: D) -> Result<Journal<D>, NotMade<D>>
         ensures reopened { IfOk result (λ journal. IfSome (D.shown disk).contents (λ bytes. IsOfKind bytes (Keeps journal.frames))) }
+        ensures some { IfOk result (λ journal. 1 ≤ length journal.frames) }
         ensures no_faults { IfOk result (λ journal. journal.faults ≡ 0) }
         ensures blank { Refuses IsBlank WhyNot.Blank (D.shown disk).contents result }
         ensures foreign { Refuses IsForeign WhyNot.Foreign (D.shown disk).contents result }
@@ -149,7 +150,9 @@ impl<D: Disk> Journal<D> {
         ensures device_fault { IfErr result (λ e. e.why ≡ WhyNot.DeviceFault → Rose (D.shown disk).faults (D.shown e.disk).faults) }
         ensures not_present { IfErr result (λ e. e.why ≢ WhyNot.Present) }
         ensures kept { MatchResult result (λ journal. IsKeptBy (D.shown disk) (D.shown journal.disk)) (λ e. IsKeptBy (D.shown disk) (D.shown e.disk)) }
-        ensures rest { IfOk result (λ journal. RestsFrom ((D.shown disk).moment + 2) (D.shown journal.disk)) }
+        ensures rest { MatchResult result
+            (λ journal. RestsFrom ((D.shown disk).moment + 2) (D.shown journal.disk))
+            (λ e. ((e.why ≡ WhyNot.DeviceFault) × MakesCalls 1 (D.shown disk) (D.shown e.disk)) ⊎ RestsFrom ((D.shown disk).moment + 2) (D.shown e.disk)) }
     {
         let mut disk = disk;
         match find(alloc, &mut disk) {
@@ -167,6 +170,7 @@ impl<D: Disk> Journal<D> {
     pub fn count(&self) -> u32
         ensures count { result ≡ length self.now.frames }
         ensures within { result ≤ most_frames }
+        ensures room { length self.now.frames + self.now.spare ≤ most_frames }
         ensures settled { IsSettled self.now.frames (D.shown self.now.disk) }
     {
         self.list.count()
@@ -187,7 +191,7 @@ impl<D: Disk> Journal<D> {
     /// `DeviceFault` only where the disk failed in this call.
     pub fn frame(&mut self, i: u32) -> Result<Frame, DeviceFault>
         requires { i < length self.old.frames }
-        ensures frame { IfOk result (λ frame. slice_get self.old.frames i ≡ Some frame) }
+        ensures frame { IfOk result (λ frame. IsSome (D.shown self.old.disk).contents → slice_get self.old.frames i ≡ Some frame) }
         ensures device_fault { OnErr result (Rose (D.shown self.old.disk).faults (D.shown self.new.disk).faults) }
         ensures kept { IsSame D.shown (is_err result) self.old self.new }
     {

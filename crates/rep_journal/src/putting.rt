@@ -1,11 +1,12 @@
 //! What `create` and `put` write.
-ghost use Rattle.std.specs.Prelude.{◌≡◌, ◌↔◌, ◌+◌, ◌≤◌, List, [], ◌∷◌, ◌++◌, ◌⊎◌, length, OnOk, MatchResult};
+ghost use Rattle.std.specs.Prelude.{◌≡◌, ◌↔◌, ◌⊎◌, ◌+◌, ◌≤◌, List, [], ◌∷◌, ◌++◌, length, OnErr, OnOk, MatchResult};
 ghost use Rattle.rep_io.specs.Causes.{HasCause};
-ghost use Rattle.rep_disk.specs.Disk.{Changes, IsAtRest, IsOwnImage, IsWithin, Moves, Torn, Writes, end_of_disk};
+ghost use Rattle.rep_disk.specs.Disk.{Changes, IsAtRest, IsOwnImage, IsWithin, Moves, Torn, end_of_disk};
 ghost use Rattle.rep_journal.specs.Format.{Framed, IsBlank, IsJournalOf, end_of};
-ghost use Rattle.rep_journal.specs.State.{Becomes, CountsCalls, IsWithOrWithout, StandsFor};
+ghost use Rattle.rep_journal.specs.State.{Becomes, CountsCalls, FailsToAppend, Leaves, StandsFor};
 ghost use Rattle.rep_journal.specs.Recovery.{Blanks, Creates, Puts};
 ghost use Rattle.rep_journal.specs.Fields.{IsBlankBy, room_of_frame};
+ghost use Rattle.rep_journal.specs.Putting.{CountsBlankCalls, CountsCreateCalls, SameBehind, WritesSurely};
 
 use crate::bytes::Stage;
 use crate::format::{BLANK, FIRST_GATE, OPEN_GATE};
@@ -18,10 +19,9 @@ pub(crate) fn write_and_sync<D: Disk>(disk: &mut D, at: u64, piece: &[u8]) -> Re
     requires within { IsWithin at (D.shown disk.old).contents }
     requires end { at + length piece.now ≤ end_of_disk }
     requires room { length piece.now ≤ (D.shown disk.old).spare }
-    ensures contents { Writes at piece.now (D.shown disk.old).contents (D.shown disk.new).contents result }
+    ensures writes { WritesSurely at piece.now (D.shown disk.old) (D.shown disk.new) result }
     ensures rest { OnOk result (IsAtRest (D.shown disk.new)) }
     ensures spare { (D.shown disk.old).spare ≤ (D.shown disk.new).spare + length piece.now }
-    ensures calls { CountsCalls 2 (D.shown disk.old) (D.shown disk.new) result }
     ensures crash { Moves (Torn at (length piece.now)) (D.shown disk.old) (D.shown disk.new) }
     ensures own { IsOwnImage (D.shown disk.old) ↔ IsOwnImage (D.shown disk.new) }
     ensures cause { HasCause (D.shown disk.old).faults (D.shown disk.new).faults result }
@@ -36,9 +36,11 @@ pub(crate) fn append<D: Disk>(disk: &mut D, end: u64, frame: &Frame) -> Result<(
     requires end { end + room_of_frame ≤ end_of_disk }
     requires room { room_of_frame ≤ (D.shown disk.old).spare }
     ensures contents { (frames : List Framed) → end ≡ end_of frames → StandsFor (D.shown disk.old).contents frames
-        → MatchResult result
-        (λ _. Becomes (frames ++ frame.now ∷ []) (D.shown disk.old).contents (D.shown disk.new).contents)
-        (λ _. Changes (λ _ bytes. IsWithOrWithout frames frame.now bytes) (D.shown disk.old).contents (D.shown disk.new).contents) }
+        → OnOk result (Becomes (frames ++ frame.now ∷ []) (D.shown disk.old).contents (D.shown disk.new).contents) }
+    ensures text { (frames : List Framed) → end ≡ end_of frames → StandsFor (D.shown disk.old).contents frames
+        → OnOk result (Leaves (frames ++ frame.now ∷ []) (D.shown disk.old).contents (D.shown disk.new).contents) }
+    ensures fails { (frames : List Framed) → end ≡ end_of frames → StandsFor (D.shown disk.old).contents frames
+        → OnErr result (FailsToAppend frames frame.now (D.shown disk.old) (D.shown disk.new)) }
     ensures rest { OnOk result (IsAtRest (D.shown disk.new)) }
     ensures spare { (D.shown disk.old).spare ≤ (D.shown disk.new).spare + room_of_frame }
     ensures calls { CountsCalls 4 (D.shown disk.old) (D.shown disk.new) result }
@@ -60,9 +62,10 @@ fn write_blank<D: Disk>(disk: &mut D, is_short: bool) -> Result<(), Failed>
     ensures contents { MatchResult result
         (λ _. Becomes [] (D.shown disk.old).contents (D.shown disk.new).contents)
         (λ _. Changes (λ _ bytes. IsBlank bytes) (D.shown disk.old).contents (D.shown disk.new).contents) }
+    ensures behind { OnOk result (Changes SameBehind (D.shown disk.old).contents (D.shown disk.new).contents) }
     ensures rest { IsAtRest (D.shown disk.old) → OnOk result (IsAtRest (D.shown disk.new)) }
     ensures spare { (D.shown disk.old).spare ≤ (D.shown disk.new).spare + 17 }
-    ensures later { (D.shown disk.old).moment ≤ (D.shown disk.new).moment }
+    ensures calls { CountsBlankCalls is_short (D.shown disk.old) (D.shown disk.new) result }
     ensures crash { Blanks (D.shown disk.old) (D.shown disk.new) }
     ensures own { IsOwnImage (D.shown disk.old) ↔ IsOwnImage (D.shown disk.new) }
     ensures cause { HasCause (D.shown disk.old).faults (D.shown disk.new).faults result }
@@ -81,8 +84,9 @@ pub(crate) fn begin<D: Disk>(disk: &mut D, is_short: bool, first: &Frame) -> Res
     ensures contents { MatchResult result
         (λ _. Becomes (first.now ∷ []) (D.shown disk.old).contents (D.shown disk.new).contents)
         (λ _. Changes (λ _ bytes. IsBlank bytes ⊎ IsJournalOf bytes (first.now ∷ [])) (D.shown disk.old).contents (D.shown disk.new).contents) }
+    ensures text { OnOk result (Leaves (first.now ∷ []) (D.shown disk.old).contents (D.shown disk.new).contents) }
     ensures rest { OnOk result (IsAtRest (D.shown disk.new)) }
-    ensures later { (D.shown disk.old).moment ≤ (D.shown disk.new).moment }
+    ensures calls { CountsCreateCalls is_short (D.shown disk.old) (D.shown disk.new) result }
     ensures crash { Creates first.now (D.shown disk.old) (D.shown disk.new) }
     ensures own { IsOwnImage (D.shown disk.old) ↔ IsOwnImage (D.shown disk.new) }
     ensures cause { HasCause (D.shown disk.old).faults (D.shown disk.new).faults result }

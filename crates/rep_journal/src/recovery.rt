@@ -1,13 +1,12 @@
 //! The frames of contents.
-ghost use Rattle.std.specs.Prelude.{◌≡◌, ◌≢◌, ◌+◌, length, IfErr, IfOk, IfSome};
+ghost use Rattle.std.specs.Prelude.{◌≡◌, ◌≢◌, ◌⊎◌, ◌+◌, ◌≤◌, [], length, IfErr, IfOk, IfSome};
 ghost use Rattle.rep_io.specs.Causes.{Rose};
 ghost use Rattle.rep_journal.specs.Head.{IsOpen};
-ghost use Rattle.rep_journal.specs.State.{IsKeptBy, IsRead};
+ghost use Rattle.rep_journal.specs.State.{IsKeptBy, IsRead, MakesCalls};
 ghost use Rattle.rep_journal.specs.Recovery.{RestsFrom};
 ghost use Rattle.rep_journal.specs.Finding.{Finds};
 
 use crate::error::WhyNot;
-use crate::format::MOST_FRAMES;
 use crate::frame_list::FrameList;
 use crate::head::{Head, read_head};
 use crate::scan::take_frames;
@@ -24,10 +23,23 @@ fn zeros(alloc: Global) -> Result<Vec<u8>, AllocError>
     vec![in alloc; 0; PIECE]
 }
 
+// The frames before a closed gate, of which there are some.
+fn kept(list: FrameList) -> Result<FrameList, WhyNot>
+    ensures kept { IfOk result (λ found. found ≡ list) }
+    ensures some { IfOk result (λ found. 1 ≤ length found.frames) }
+    ensures none { IfErr result (λ why. (why ≡ WhyNot.Blank) × (list.frames ≡ [])) }
+{
+    if list.count() == 0 {
+        return Err(WhyNot::Blank);
+    }
+    Ok(list)
+}
+
 /// Reads the frames of contents that have the magic and an open first gate.
 fn read_frames<D: Disk>(alloc: Global, disk: &mut D) -> Result<FrameList, WhyNot>
     requires { IfSome (D.shown disk.old).contents IsOpen }
     ensures finds { Finds (D.shown disk.old).contents result }
+    ensures some { IfOk result (λ list. 1 ≤ length list.frames) }
     ensures not_present { IfErr result (λ why. why ≢ WhyNot.Present) }
     ensures kept { IsRead (D.shown disk.old) (D.shown disk.new) }
     ensures cause { IfErr result (λ why. why ≡ WhyNot.DeviceFault → Rose (D.shown disk.old).faults (D.shown disk.new).faults) }
@@ -36,7 +48,7 @@ fn read_frames<D: Disk>(alloc: Global, disk: &mut D) -> Result<FrameList, WhyNot
         return Err(WhyNot::OutOfMemory);
     };
     let mut list = FrameList::new(alloc);
-    while list.count() < MOST_FRAMES {
+    loop {
         let Ok(count) = disk.read_at(list.end(), &mut buffer) else {
             return Err(WhyNot::DeviceFault);
         };
@@ -47,12 +59,11 @@ fn read_frames<D: Disk>(alloc: Global, disk: &mut D) -> Result<FrameList, WhyNot
             return Err(WhyNot::OutOfMemory);
         };
         match stop {
-            Stop::Closed => return Ok(list),
+            Stop::Closed => return kept(list),
             Stop::Broken => return Err(WhyNot::Damaged { at: list.end() }),
             Stop::Cut => {}
         }
     }
-    Err(WhyNot::OutOfMemory)
 }
 
 /// Makes sure of the contents, and reads their frames.
@@ -60,7 +71,8 @@ pub(crate) fn find<D: Disk>(alloc: Global, disk: &mut D) -> Result<FrameList, Wh
     ensures finds { Finds (D.shown disk.old).contents result }
     ensures not_present { IfErr result (λ why. why ≢ WhyNot.Present) }
     ensures kept { IsKeptBy (D.shown disk.old) (D.shown disk.new) }
-    ensures rest { IfOk result (λ list. RestsFrom ((D.shown disk.old).moment + 2) (D.shown disk.new)) }
+    ensures some { IfOk result (λ list. 1 ≤ length list.frames) }
+    ensures rest { IfErr result (λ why. (why ≡ WhyNot.DeviceFault) × MakesCalls 1 (D.shown disk.old) (D.shown disk.new)) ⊎ RestsFrom ((D.shown disk.old).moment + 2) (D.shown disk.new) }
     ensures cause { IfErr result (λ why. why ≡ WhyNot.DeviceFault → Rose (D.shown disk.old).faults (D.shown disk.new).faults) }
 {
     if disk.sync().is_err() {

@@ -22,11 +22,13 @@ impl<D: Disk> Model for Vacant<D> {
 }
 
 impl<D: Disk> Vacant<D> {
-    ghost use Rattle.std.specs.Prelude.{◌≡◌};
+    ghost use Rattle.std.specs.Prelude.{◌≡◌, IfSome};
+    ghost use Rattle.rep_journal.specs.Format.{IsBlank};
 
     /// The disk, with its contents as before.
     pub fn into_disk(self) -> D
-        ensures { result ≡ self }
+        ensures disk { result ≡ self }
+        ensures blank { IfSome (D.shown result).contents IsBlank }
     {
         self.disk
     }
