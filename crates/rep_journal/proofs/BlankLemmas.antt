@@ -1,11 +1,11 @@
 -- What the write of the magic makes of contents and images.
 use Rattle.std.proofs.Common.{◌≡◌, ◌≢◌, ◌⊎◌, inl, inr, ℕ, ◌+◌, ◌*◌, ◌<◌, ◌≤◌, max, min, Bool, true, false, List, [], ◌∷◌, ◌++◌, length, take, drop, Some, None, Option, Ok, Err, Result, refl, sym, ap, ◌∙◌, subst, arith, append_assoc, length-append}
-use Rattle.std.specs.Prelude.{IfSome, IsSome, MatchBool, MatchResult, OnErr, OnOk, is_err, ◌↔◌}
+use Rattle.std.specs.Prelude.{IfSome, IsSome, MatchBool, MatchResult, nat_le, OnErr, OnOk, is_err, ◌↔◌}
 use Rattle.std.proofs.lemmas.List.{append-nil, drop_all}
-use Rattle.std.proofs.lemmas.Bool.{cases_lt}
+use Rattle.std.proofs.lemmas.Bool.{cases_lt, le-leb, lt-leb}
 use Rattle.rep_disk.specs.Disk.{Shown, Torn, Written, Changes, Moves, IsAtRest, last_moment}
 use Rattle.rep_journal.specs.Format.{magic, open_gate, closed_gate, Framed, IsFrame, IsJournalOf, IsBlank, front_text, end_of}
-use Rattle.rep_journal.specs.State.{StandsFor, Becomes, Leaves, IsLeftAt, FailsToAppend, MakesCalls, CountsCalls}
+use Rattle.rep_journal.specs.State.{StandsFor, Becomes, Leaves, IsLeftAt, FailsToAppend, MakesCalls, CountsCalls, MakesCreateCalls}
 use Rattle.rep_journal.specs.Recovery.{BlankMoments, Blanks, CreateMoments, Creates, Puts}
 use Rattle.rep_journal.specs.Fields.{IsBlankBy, IsLongBlank}
 use Rattle.rep_journal.specs.Putting.{WritesSurely, CountsBlankCalls, CountsCreateCalls, SameBehind}
@@ -167,6 +167,30 @@ blank_calls true at piece old new (Ok v) is w = w.0
 blank_calls true at piece old new (Err e) is (inl torn) = (refl, (1, omega arith, omega arith, torn.0))
 blank_calls true at piece old new (Err e) is (inr written) = (refl, (2, omega arith, omega arith, written.0))
 blank_calls false at piece old new result is w = absurd (cc)
+
+-- by the length of contents that are told
+by_length : (is_short : Bool) (contents : Option (List ℕ)) (P Q : Type 0) → IfSome contents (λ bytes. MatchBool is_short (length bytes ≤ 17) (IsLongBlank bytes)) → MatchBool is_short P Q
+    → IfSome contents (λ bytes. MatchBool (nat_le (length bytes) 17) P Q)
+by_length is_short None P Q blank calls = tt
+by_length true (Some bytes) P Q blank calls = if_short (nat_le (length bytes) 17) P Q (le-leb (length bytes) 17 blank) calls
+by_length false (Some bytes) P Q blank calls = if_long (nat_le (length bytes) 17) P Q (lt-leb (length bytes) 17 blank.long) calls
+
+pub made_calls : {E : Type 0} (is_short : Bool) (old new : Shown) (result : Result (Unit {0}) E) → is_err result ≡ false → IsBlankBy is_short old → CountsCreateCalls is_short old new result → MakesCreateCalls old new
+made_calls is_short old new (Err e) ok blank calls = absurd (cc)
+made_calls true old new (Ok v) ok blank calls = by_length true old.contents (MakesCalls 6 old new) (MakesCalls 4 old new) blank calls
+made_calls false old new (Ok v) ok blank calls = by_length false old.contents (MakesCalls 6 old new) (MakesCalls 4 old new) blank calls
+
+-- time goes on
+pub create_later : {T E : Type 0} (is_short : Bool) (old new : Shown) (result : Result T E) → CountsCreateCalls is_short old new result → old.moment ≤ new.moment
+create_later true old new (Ok v) calls = omega arith
+create_later false old new (Ok v) calls = omega arith
+create_later true old new (Err e) calls = let moment = calls.3 in omega arith
+create_later false old new (Err e) calls = let moment = calls.3 in omega arith
+
+-- what an answer says
+pub of_ok : {T E : Type 0} (result : Result T E) (P : Type 0) (Q : E → Type 0) → is_err result ≡ false → MatchResult result (λ _. P) Q → P
+of_ok (Ok v) P Q ok p = p
+of_ok (Err e) P Q ok p = absurd (cc)
 
 -- time goes on
 pub blank_later : (is_short : Bool) (old mid : Shown) → MatchBool is_short (MakesCalls 2 old mid) (MakesCalls 0 old mid) → old.moment ≤ mid.moment

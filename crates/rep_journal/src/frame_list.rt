@@ -48,7 +48,7 @@ impl FrameList {
     /// How many frames there are.
     pub fn count(&self) -> u32
         ensures count { result ≡ length self.now.frames }
-        ensures within { result ≤ most_frames }
+        ensures room { length self.now.frames + self.now.room ≤ most_frames }
     {
         self.frames.len() as u32
     }
