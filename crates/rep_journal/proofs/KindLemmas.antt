@@ -227,7 +227,7 @@ scan (suc fuel) gate bytes le = elim (cases_eq gate open_gate) [
   ]
 ]
 
-front_is : (bytes : List ℕ) → HasMagic bytes → take 16 bytes ≡ magic
+pub front_is : (bytes : List ℕ) → HasMagic bytes → take 16 bytes ≡ magic
 front_is bytes has = ap (λ (l : List ℕ). take 16 l) has.1 ∙ take_at magic has.0 16 length-magic
 
 of_closed : (bytes : List ℕ) (frames : List Framed) → IsJournalOf bytes frames → (kind : Kind) × IsOfKind bytes kind

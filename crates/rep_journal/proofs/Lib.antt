@@ -1,5 +1,6 @@
 mod BlankLemmas
 mod FormatLemmas
+mod HeadLemmas
 mod KindLemmas
 mod ListLemmas
 mod MomentLemmas

@@ -1,7 +1,8 @@
 //! The first bytes of contents: magic and first gate.
-ghost use Rattle.std.specs.Prelude.{◌≡◌, ◌≤◌, ◌<◌, length, take, IfOk, IfSome, OnErr};
+ghost use Rattle.std.specs.Prelude.{◌≡◌, ◌↔◌, ◌≤◌, length, take, IfOk, IfSome, IsTrue};
 ghost use Rattle.rep_io.specs.Causes.{HasCause};
 ghost use Rattle.rep_journal.specs.State.{IsRead};
+ghost use Rattle.rep_journal.specs.Format.{magic};
 ghost use Rattle.rep_journal.specs.Head.{IsHead};
 
 use crate::format::{MAGIC, OPEN_GATE};
@@ -21,6 +22,13 @@ pub(crate) enum Head {
     Open,
 }
 
+fn has_magic(front: &[u8]) -> bool
+    requires { 16 ≤ length front.now }
+    ensures { IsTrue result ↔ (take 16 front.now ≡ magic) }
+{
+    front[..16] == MAGIC[..]
+}
+
 /// How contents begin, of which these are the first 18 bytes, or all.
 fn judge(front: &[u8]) -> Head
     requires { length front.now ≤ 18 }
@@ -29,7 +37,7 @@ fn judge(front: &[u8]) -> Head
     if front.len() < 18 {
         return Head::Short;
     }
-    if front[..16] != MAGIC[..] {
+    if !has_magic(front) {
         return Head::Foreign;
     }
     if front[16] == OPEN_GATE {

@@ -1,17 +1,12 @@
-use Rattle.std.proofs.Common.{rules, ◌≡◌, ◌≤◌, ◌<◌, length, take, IfOk, IfSome, OnErr, ℕ, ◌+◌, ◌-◌, ◌*◌, ◌/◌, ◌%◌, Bool, true, false, nat_eq, nat_lt, List, [], ◌∷◌, ◌++◌, slice_index_or, slice_set, bit_and, bit_or, Fits, w8, w32, w64, Bor, MutBor}
-use Rattle.rep_io.specs.Causes.{HasCause}
-use Rattle.rep_journal.specs.State.{IsRead}
-use Rattle.rep_journal.specs.Head.{IsHead}
+use Rattle.std.proofs.Common.{◌≡◌, arith}
+use Rattle.rep_journal.proofs.HeadLemmas.{head_foreign, head_open, head_closed}
 use Rattle.rep_journal.proofs.head.judge.Goals as goal
 
--- src/head.rt:33:9
-pub returns-then-ne : goal.returns-then-ne
-returns-then-ne c = ?
+pub returns-then-not-has_magic : goal.returns-then-not-has_magic
+returns-then-not-has_magic c = head_foreign c.args.front.now (omega arith) (λ is. let yes = c.if-not-has_magic.ensures.1 is in absurd (cc))
 
--- src/head.rt:25:1
 pub returns-then-front : goal.returns-then-front
-returns-then-front c = ?
+returns-then-front c = head_open c.args.front.now (omega arith) (c.has_magic.ensures.0 c.if-not-has_magic.false) c.if-front.true
 
--- src/head.rt:25:1
 pub returns-else-front : goal.returns-else-front
-returns-else-front c = ?
+returns-else-front c = head_closed c.args.front.now (omega arith) (c.has_magic.ensures.0 c.if-not-has_magic.false) c.if-front.false
