@@ -5,4 +5,5 @@ mod KindLemmas
 mod ListLemmas
 mod MomentLemmas
 mod PutLemmas
+mod ScanLemmas
 mod UniqueLemmas

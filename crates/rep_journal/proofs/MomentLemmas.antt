@@ -88,7 +88,7 @@ module _ (fs : List Framed) (f : Framed) where
         closed = λ m image from four to leaves. images m image from to leaves;
         opened = λ m image from to leaves. inl (images m image from to leaves);
         sure = moved_never_falls fs (Torn (end_of fs + 1) size) old new moved (λ image leaves. inl (rest_has old (λ b. IsJournalOf b fs) told stands rest (omega arith) image leaves))
-        (λ m image from to leaves gs s. with_or_without image gs (inl (images m image (omega arith) to leaves)) s);
+            (λ m image from to leaves gs s. with_or_without image gs (inl (images m image (omega arith) to leaves)) s);
       }
 
   -- after the second write and its sync, or where one of these two failed
@@ -107,6 +107,6 @@ module _ (fs : List Framed) (f : Framed) where
           | inr ahead ↦ first.opened m image from ahead ((moved.past m image ahead).0 leaves)
         ];
         sure = never_falls_on old mid new moved.past le le_mid first.sure
-        (moved_never_falls fs (Torn (end_of fs) 1) mid new moved (λ image leaves. inl (still image (rest_has mid (λ b. IsStaged b fs f) told_mid staged rest_mid (omega arith) image leaves)))
-          (λ m image from to leaves gs s. with_or_without image gs (later m image (omega arith) to leaves) s));
+            (moved_never_falls fs (Torn (end_of fs) 1) mid new moved (λ image leaves. inl (still image (rest_has mid (λ b. IsStaged b fs f) told_mid staged rest_mid (omega arith) image leaves)))
+            (λ m image from to leaves gs s. with_or_without image gs (later m image (omega arith) to leaves) s));
       }

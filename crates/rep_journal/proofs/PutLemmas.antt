@@ -167,7 +167,7 @@ module _ (fs : List Framed) (f : Framed) (fits : IsFrame f) where
     within = omega arith;
     calls = torn.0;
     contents = changes_to (λ b. IsJournalOf b fs) (Torn (end_of fs + 1) (length (frame_text f ++ 0 ∷ []))) (λ _ bytes. IsLeftAt 1 fs f bytes) old.contents new.contents stands
-    (λ a b j t. let k = torn_behind fs (length (frame_text f ++ 0 ∷ [])) a b j t in record { early = λ _. k; late = λ e. absurd (omega arith); either = inl k }) torn.1;
+        (λ a b j t. let k = torn_behind fs (length (frame_text f ++ 0 ∷ [])) a b j t in record { early = λ _. k; late = λ e. absurd (omega arith); either = inl k }) torn.1;
   }
   fails_early old new stands (inr written) = record {
     failed = 2;
@@ -175,7 +175,7 @@ module _ (fs : List Framed) (f : Framed) (fits : IsFrame f) where
     within = omega arith;
     calls = written.0;
     contents = changes_to (λ b. IsJournalOf b fs) (Written (end_of fs + 1) (frame_text f ++ 0 ∷ [])) (λ _ bytes. IsLeftAt 2 fs f bytes) old.contents new.contents stands
-    (λ a b j w. let k = still_frames fs f b (written_behind fs f a b fits j w) in record { early = λ _. k; late = λ e. absurd (omega arith); either = inl k }) written.1;
+        (λ a b j w. let k = still_frames fs f b (written_behind fs f a b fits j w) in record { early = λ _. k; late = λ e. absurd (omega arith); either = inl k }) written.1;
   }
 
   -- the second write or its sync failed
@@ -186,7 +186,7 @@ module _ (fs : List Framed) (f : Framed) (fits : IsFrame f) where
     within = omega arith;
     calls = (let calls = torn.0 in omega arith);
     contents = changes_both (λ b. IsJournalOf b fs) (Written (end_of fs + 1) (frame_text f ++ 0 ∷ [])) (Torn (end_of fs) 1) (λ _ bytes. IsLeftAt 3 fs f bytes) old.contents mid.contents new.contents stands
-    (λ a b y j w t. record { early = λ le. absurd (omega arith); late = λ e. absurd (omega arith); either = torn_gate fs f b y (written_behind fs f a b fits j w) t }) c torn.1;
+        (λ a b y j w t. record { early = λ le. absurd (omega arith); late = λ e. absurd (omega arith); either = torn_gate fs f b y (written_behind fs f a b fits j w) t }) c torn.1;
   }
   fails_late old mid new stands two c (inr written) = record {
     failed = 4;
@@ -194,7 +194,7 @@ module _ (fs : List Framed) (f : Framed) (fits : IsFrame f) where
     within = omega arith;
     calls = (let calls = written.0 in omega arith);
     contents = changes_both (λ b. IsJournalOf b fs) (Written (end_of fs + 1) (frame_text f ++ 0 ∷ [])) (Written (end_of fs) (open_gate ∷ [])) (λ _ bytes. IsLeftAt 4 fs f bytes) old.contents mid.contents new.contents stands
-    (λ a b y j w v. let k = written_gate fs f b y (written_behind fs f a b fits j w) v in record { early = λ le. absurd (omega arith); late = λ e. k; either = inr k }) c written.1;
+        (λ a b y j w v. let k = written_gate fs f b y (written_behind fs f a b fits j w) v in record { early = λ le. absurd (omega arith); late = λ e. k; either = inr k }) c written.1;
   }
 
   pub appends : {E : Type 0} (old mid new : Shown) (result : Result (Unit {0}) E) → StandsFor old.contents fs → Changes (Written (end_of fs + 1) (frame_text f ++ 0 ∷ [])) old.contents mid.contents → WritesSurely (end_of fs) (open_gate ∷ []) mid new result

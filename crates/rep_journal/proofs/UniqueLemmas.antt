@@ -20,7 +20,7 @@ same_split (x ∷ p) (y ∷ q) a b l e =
 pub same_head : {A : Type 0} (x y : A) (a b : List A) → x ∷ a ≡ y ∷ b → (x ≡ y) × (a ≡ b)
 same_head x y a b e = (cc, cc)
 
-line_short : (n : ℕ) → IsLineLength n → n < 2 ^ 16
+pub line_short : (n : ℕ) → IsLineLength n → n < 2 ^ 16
 line_short n h = grind arith
 
 same_framed : (f g : Framed) → f.origin ≡ g.origin → f.seq ≡ g.seq → f.line ≡ g.line → f ≡ g

@@ -19,12 +19,16 @@ IsStop is_last rest Closed = (gate : ℕ) × (more : List ℕ) × (gate ≢ open
 IsStop is_last rest Broken = (more : List ℕ) × (rest ≡ open_gate ∷ more) × (is_last ≡ false → 344 ≤ length more) × ReadsFrame more None
 IsStop is_last rest Cut = (is_last ≡ false) × (length rest ≤ 344)
 
--- the piece is the text of new frames, and then that of the stop
-pub record TakesFrames (piece : List ℕ) (is_last : Bool) (old new : List Framed) (stop : Stop) : Type 0 where
+-- the piece is the text of new frames, and then this, which isn't empty
+pub record TakesTo (piece : List ℕ) (old new : List Framed) (rest : List ℕ) : Type 0 where
   pub taken : List Framed
   pub frames : new ≡ old ++ taken
   pub well_formed : AreFrames taken
-  pub rest : List ℕ
-  pub some : 0 < length rest
   pub text : piece ≡ frames_text taken ++ rest
+  pub some : 0 < length rest
+
+-- the new frames are those up to the stop
+pub record TakesFrames (piece : List ℕ) (is_last : Bool) (old new : List Framed) (stop : Stop) : Type 0 where
+  pub rest : List ℕ
+  pub takes : TakesTo piece old new rest
   pub stops : IsStop is_last rest stop

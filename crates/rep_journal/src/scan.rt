@@ -1,5 +1,5 @@
 //! One pass over a piece of contents.
-ghost use Rattle.std.specs.Prelude.{◌≡◌, ◌<◌, length, IfOk};
+ghost use Rattle.std.specs.Prelude.{◌≡◌, ◌+◌, ◌<◌, ◌≤◌, drop, length, IfOk};
 ghost use Rattle.rep_journal.specs.Format.{eight_bytes, two_bytes};
 ghost use Rattle.rep_journal.specs.Scan.{ReadsFrame, TakesFrames};
 
@@ -43,6 +43,15 @@ fn read_frame(bytes: &[u8]) -> Option<Frame>
     Frame::make(origin, seq, &bytes[HEAD_SIZE..HEAD_SIZE + size])
 }
 
+/// What stands behind a gate and a frame.
+fn behind<'a>(bytes: &'a [u8], frame: &Frame) -> &'a [u8]
+    requires { 13 + length frame.now.line ≤ length bytes.now }
+    ensures { result.now ≡ drop (13 + length frame.now.line) bytes.now }
+{
+    let size = 1 + HEAD_SIZE + frame.line().len();
+    &bytes[size..]
+}
+
 /// Takes the frames of a piece, of which the front is a gate. `is_last` says that the contents end with the piece.
 pub(crate) fn take_frames(
     piece: &[u8],
@@ -60,10 +69,9 @@ pub(crate) fn take_frames(
         let Some(frame) = read_frame(&rest[1..]) else {
             return Ok(Stop::Broken);
         };
-        let size = 1 + HEAD_SIZE + frame.line().len();
+        rest = behind(rest, &frame);
         list.reserve()?;
         list.push(frame);
-        rest = &rest[size..];
     }
     Ok(Stop::Cut)
 }
