@@ -1,10 +1,13 @@
 -- What stands at the front of bytes.
 use Rattle.std.proofs.Common.{◌≡◌, ◌≢◌, ◌⊎◌, inl, inr, ℕ, suc, ◌+◌, ◌-◌, ◌*◌, ◌<◌, ◌≤◌, ◌^◌, min, Bool, true, false, List, [], ◌∷◌, ◌++◌, length, take, drop, get_or, Some, None, Option, refl, sym, ap, ◌∙◌, subst, arith, append_assoc, length-append, length-take, length-drop, take-append-drop}
-use Rattle.std.specs.Prelude.{IfSome, IsSome, ◌↔◌}
-use Rattle.std.proofs.lemmas.List.{append-nil, take_at, drop_at, drop-drop, drop_more, length-take-le}
-use Rattle.rep_journal.specs.Format.{open_gate, Framed, IsFrame, IsLineLength, AreFrames, two_bytes, eight_bytes, frame_text, frames_text}
-use Rattle.rep_journal.specs.Scan.{HasFrame, ReadsFrame, TakesTo}
-use Rattle.rep_journal.proofs.FormatLemmas.{length-two_bytes, same_two_bytes, frame_pieces, length-frame_text, frames_text-append, are_frames-push}
+use Rattle.std.specs.Prelude.{IfSome, IsSome, nat_lt, ◌↔◌}
+use Rattle.std.proofs.lemmas.Bool.{ltb-true}
+use Rattle.std.proofs.lemmas.List.{append-nil, take_at, take-append-le, drop_at, drop_all, drop-drop, drop_more, length-take-le}
+use Rattle.rep_journal.specs.Format.{magic, open_gate, Framed, IsFrame, IsJournalOf, IsLineLength, AreFrames, two_bytes, eight_bytes, frame_text, frames_text, front_text, end_of}
+use Rattle.rep_journal.specs.Scan.{HasFrame, ReadsFrame, TakesTo, TakesFrames, IsScanned, EndsBroken, IsScannedTo}
+use Rattle.rep_journal.specs.declared.stop.Stop.{Stop}
+use Rattle.rep_journal.specs.declared.stop.Stop.TheVariants.{Closed, Broken, Cut}
+use Rattle.rep_journal.proofs.FormatLemmas.{length-two_bytes, same_two_bytes, length-front_text, frame_pieces, longest_frame, length-frame_text, frames_text-append, are_frames-push}
 use Rattle.rep_journal.proofs.UniqueLemmas.{line_short}
 
 -- the frame that stands there is as long as its length says
@@ -77,3 +80,97 @@ module _ (rest : List ℕ) (f : Framed) (some : 0 < length rest) (gate : get_or 
         ∙ ap (λ (l : List ℕ). frames_text (t.taken ++ f ∷ []) ++ l) (sym behind_frame);
     some = omega (arith, ap length behind_frame);
   }
+
+-- From a piece to the contents.
+
+front_text-append : (fs gs : List Framed) → front_text (fs ++ gs) ≡ front_text fs ++ frames_text gs
+front_text-append fs gs = ap (λ (l : List ℕ). magic ++ l) (frames_text-append fs gs) ∙ sym (append_assoc magic (frames_text fs) (frames_text gs))
+
+are_frames-append : (fs gs : List Framed) → AreFrames fs → AreFrames gs → AreFrames (fs ++ gs)
+are_frames-append [] gs all more = more
+are_frames-append (f ∷ fs) gs all more = (all.0, are_frames-append fs gs all.1 more)
+
+-- a front that is longer than a frame has the frame and a byte behind it
+has_in_front : (front behind : List ℕ) (f : Framed) → 344 ≤ length front → HasFrame (front ++ behind) f → HasFrame front f
+has_in_front front behind f long has =
+    let most = longest_frame f has.0 in
+    let size = length (frame_text f) in
+    let same : take size front ≡ frame_text f = sym (take-append-le size front behind (omega arith)) ∙ ap (λ (l : List ℕ). take size l) has.1.2 ∙ take_at (frame_text f) (has.1.0 ∷ has.1.1) size refl in
+    (has.0, (get_or front size 0, drop (size + 1) front, sym (take-append-drop size front) ∙ ap (λ (l : List ℕ). l ++ drop size front) same ∙ ap (λ (l : List ℕ). frame_text f ++ l) (drop_more front size 0 (omega arith))))
+
+module _ (bytes : List ℕ) (fs : List Framed) (scanned : IsScanned bytes fs) where
+  tail_is : drop (end_of fs) bytes ≡ scanned.gate ∷ scanned.rest
+  tail_is = ap (λ (l : List ℕ). drop (end_of fs) l) scanned.text ∙ drop_at (front_text fs) (scanned.gate ∷ scanned.rest) (end_of fs) (length-front_text fs)
+
+  -- there is something to read
+  pub reads_some : (into : List ℕ) (n size : ℕ) → n ≡ 0 → 0 < size → take n into ≡ take size (drop (end_of fs) bytes) → ⊥
+  reads_some into n size none some is =
+      let l = ap length is in
+      let t = ap length tail_is in
+      omega (arith, length-take n into, length-take size (drop (end_of fs) bytes))
+
+  module _ (piece : List ℕ) (size : ℕ) (is : piece ≡ take size (drop (end_of fs) bytes)) where
+    beyond : List ℕ
+    beyond = drop size (drop (end_of fs) bytes)
+
+    -- the contents, by the frames of the piece and what is left of it
+    whole : (new : List Framed) (rest : List ℕ) → TakesTo piece fs new rest → bytes ≡ front_text new ++ (rest ++ beyond)
+    unfolding beyond
+    whole new rest t =
+        scanned.text
+        ∙ ap (λ (l : List ℕ). front_text fs ++ l) (sym tail_is ∙ sym (take-append-drop size (drop (end_of fs) bytes)) ∙ ap (λ (l : List ℕ). l ++ drop size (drop (end_of fs) bytes)) (sym is ∙ t.text) ∙ append_assoc (frames_text t.taken) rest (drop size (drop (end_of fs) bytes)))
+        ∙ sym (append_assoc (front_text fs) (frames_text t.taken) (rest ++ drop size (drop (end_of fs) bytes)))
+        ∙ ap (λ (l : List ℕ). l ++ (rest ++ drop size (drop (end_of fs) bytes))) (sym (front_text-append fs t.taken) ∙ ap front_text (sym t.frames))
+
+    well_formed : (new : List Framed) (rest : List ℕ) → TakesTo piece fs new rest → AreFrames new
+    well_formed new rest t = subst AreFrames (sym t.frames) (are_frames-append fs t.taken scanned.well_formed t.well_formed)
+
+    nothing_beyond : length piece < size → beyond ≡ []
+    unfolding beyond
+    nothing_beyond short = drop_all size (drop (end_of fs) bytes) (omega (arith, ap length is, length-take size (drop (end_of fs) bytes)))
+
+    pub scans_to : (is_last : Bool) (new : List Framed) (stop : Stop) → (is_last ≡ true → length piece < size) → TakesFrames piece is_last fs new stop → IsScannedTo bytes new stop
+    scans_to is_last new Closed last t =
+        let s = t.stops in
+        record {
+          well_formed = well_formed new t.rest t.takes;
+          gate = s.0;
+          closed = s.2;
+          rest = s.1 ++ beyond;
+          text = whole new t.rest t.takes ∙ ap (λ (l : List ℕ). front_text new ++ (l ++ beyond)) s.3;
+        }
+    scans_to true new Broken last t =
+        let s = t.stops in
+        let none_left = nothing_beyond (last refl) in
+        record {
+          well_formed = well_formed new t.rest t.takes;
+          rest = s.0;
+          text = whole new t.rest t.takes ∙ ap (λ (l : List ℕ). front_text new ++ (l ++ beyond)) s.1 ∙ ap (λ (l : List ℕ). front_text new ++ open_gate ∷ (s.0 ++ l)) none_left ∙ ap (λ (l : List ℕ). front_text new ++ open_gate ∷ l) (append-nil s.0);
+          none = s.3;
+        }
+    scans_to false new Broken last t =
+        let s = t.stops in
+        record {
+          well_formed = well_formed new t.rest t.takes;
+          rest = s.0 ++ beyond;
+          text = whole new t.rest t.takes ∙ ap (λ (l : List ℕ). front_text new ++ (l ++ beyond)) s.1;
+          none = λ f has. s.3 f (has_in_front s.0 beyond f (s.2 refl) has);
+        }
+    scans_to is_last new Cut last t = record {
+      well_formed = well_formed new t.rest t.takes;
+      gate = get_or t.rest 0 0;
+      rest = drop 1 t.rest ++ beyond;
+      text = whole new t.rest t.takes ∙ ap (λ (l : List ℕ). front_text new ++ (l ++ beyond)) (drop_more t.rest 0 0 t.takes.some);
+    }
+
+-- The same of contents that are told.
+
+pub none_read : (contents : Option (List ℕ)) (fs : List Framed) (into : List ℕ) (n size at : ℕ) → n ≡ 0 → 0 < size → at ≡ end_of fs → IfSome contents (λ b. take n into ≡ take size (drop at b)) → IfSome contents (λ b. IsScanned b fs → EndsBroken b fs)
+none_read None fs into n size at none some is told = tt
+none_read (Some bytes) fs into n size at none some is told = λ scanned. absurd (reads_some bytes fs scanned into n size none some (told ∙ ap (λ (m : ℕ). take size (drop m bytes)) is))
+
+pub scans_told : (contents : Option (List ℕ)) (fs new : List Framed) (into : List ℕ) (n size at : ℕ) (stop : Stop) → at ≡ end_of fs → n ≤ size → length into ≡ size → IfSome contents (λ b. take n into ≡ take size (drop at b))
+    → TakesFrames (take n into) (nat_lt n size) fs new stop → IfSome contents (λ b. IsScanned b fs → IsScannedTo b new stop)
+scans_told None fs new into n size at stop is le all told t = tt
+scans_told (Some bytes) fs new into n size at stop is le all told t = λ scanned.
+    scans_to bytes fs scanned (take n into) size (told ∙ ap (λ (m : ℕ). take size (drop m bytes)) is) (nat_lt n size) new stop (λ last. let less = ltb-true n size last in omega (arith, length-take n into)) t

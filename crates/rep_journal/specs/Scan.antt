@@ -1,6 +1,6 @@
 -- What a pass over a piece of contents finds: this project's own.
 use Rattle.std.specs.Prelude.{◌≡◌, ◌≢◌, ℕ, ◌<◌, ◌≤◌, Bool, true, false, List, [], ◌∷◌, ◌++◌, length, Option, Some, None}
-use Rattle.rep_journal.specs.Format.{Framed, IsFrame, AreFrames, frame_text, frames_text, open_gate}
+use Rattle.rep_journal.specs.Format.{Framed, IsFrame, IsJournalOf, AreFrames, frame_text, frames_text, front_text, open_gate}
 use Rattle.rep_journal.specs.declared.stop.Stop.{Stop}
 use Rattle.rep_journal.specs.declared.stop.Stop.TheVariants.{Closed, Broken, Cut}
 
@@ -32,3 +32,23 @@ pub record TakesFrames (piece : List ℕ) (is_last : Bool) (old new : List Frame
   pub rest : List ℕ
   pub takes : TakesTo piece old new rest
   pub stops : IsStop is_last rest stop
+
+-- the contents begin with these frames, and a gate stands behind them
+pub record IsScanned (bytes : List ℕ) (frames : List Framed) : Type 0 where
+  pub well_formed : AreFrames frames
+  pub gate : ℕ
+  pub rest : List ℕ
+  pub text : bytes ≡ front_text frames ++ gate ∷ rest
+
+-- and that gate is open, and no whole frame and gate byte follow it
+pub record EndsBroken (bytes : List ℕ) (frames : List Framed) : Type 0 where
+  pub well_formed : AreFrames frames
+  pub rest : List ℕ
+  pub text : bytes ≡ front_text frames ++ open_gate ∷ rest
+  pub none : ReadsFrame rest None
+
+-- what is known of the contents at a stop behind these frames
+abbrev pub IsScannedTo : List ℕ → List Framed → Stop → Type 0
+IsScannedTo bytes frames Closed = IsJournalOf bytes frames
+IsScannedTo bytes frames Broken = EndsBroken bytes frames
+IsScannedTo bytes frames Cut = IsScanned bytes frames

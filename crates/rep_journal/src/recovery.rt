@@ -1,10 +1,11 @@
 //! The frames of contents.
-ghost use Rattle.std.specs.Prelude.{◌≡◌, ◌≢◌, ◌⊎◌, ◌+◌, ◌≤◌, [], length, IfErr, IfOk, IfSome};
+ghost use Rattle.std.specs.Prelude.{◌≡◌, ◌≢◌, ◌⊎◌, ◌+◌, ◌<◌, ◌≤◌, [], length, IfErr, IfOk, IfSome};
 ghost use Rattle.rep_io.specs.Causes.{Rose};
 ghost use Rattle.rep_journal.specs.Head.{IsOpen};
 ghost use Rattle.rep_journal.specs.State.{IsKeptBy, IsRead, MakesCalls};
 ghost use Rattle.rep_journal.specs.Recovery.{RestsFrom};
 ghost use Rattle.rep_journal.specs.Finding.{Finds};
+ghost use Rattle.rep_journal.specs.Scan.{IsScanned, IsScannedTo};
 
 use crate::error::WhyNot;
 use crate::frame_list::FrameList;
@@ -12,6 +13,7 @@ use crate::head::{Head, read_head};
 use crate::scan::take_frames;
 use crate::stop::Stop;
 use rep_disk::Disk;
+use rep_io::OutOfMemory;
 use std::alloc::{AllocError, Global};
 
 /// How many bytes are read at a time.
@@ -35,6 +37,33 @@ fn kept(list: FrameList) -> Result<FrameList, WhyNot>
     Ok(list)
 }
 
+/// Reads a piece of the contents from the gate behind the frames on, and takes its frames.
+fn read_piece<D: Disk>(
+    disk: &mut D,
+    buffer: &mut [u8],
+    list: &mut FrameList,
+) -> Result<Stop, WhyNot>
+    requires { length buffer.old ≡ 65536 }
+    ensures scans { IfSome (D.shown disk.old).contents (λ bytes. IsScanned bytes list.old.frames
+        → IfOk result (λ stop. IsScannedTo bytes list.new.frames stop)) }
+    ensures more { result ≡ Ok Stop.Cut → length list.old.frames < length list.new.frames }
+    ensures why { IfErr result (λ why. (why ≡ WhyNot.DeviceFault) ⊎ (why ≡ WhyNot.OutOfMemory)) }
+    ensures kept { IsRead (D.shown disk.old) (D.shown disk.new) }
+    ensures cause { IfErr result (λ why. why ≡ WhyNot.DeviceFault → Rose (D.shown disk.old).faults (D.shown disk.new).faults) }
+{
+    let Ok(count) = disk.read_at(list.end(), buffer) else {
+        return Err(WhyNot::DeviceFault);
+    };
+    if count == 0 {
+        return Ok(Stop::Broken);
+    }
+    let is_last = count < PIECE;
+    match take_frames(&buffer[..count], is_last, list) {
+        Ok(stop) => Ok(stop),
+        Err(OutOfMemory) => Err(WhyNot::OutOfMemory),
+    }
+}
+
 /// Reads the frames of contents that have the magic and an open first gate.
 fn read_frames<D: Disk>(alloc: Global, disk: &mut D) -> Result<FrameList, WhyNot>
     requires { IfSome (D.shown disk.old).contents IsOpen }
@@ -49,19 +78,11 @@ fn read_frames<D: Disk>(alloc: Global, disk: &mut D) -> Result<FrameList, WhyNot
     };
     let mut list = FrameList::new(alloc);
     loop {
-        let Ok(count) = disk.read_at(list.end(), &mut buffer) else {
-            return Err(WhyNot::DeviceFault);
-        };
-        if count == 0 {
-            return Err(WhyNot::Damaged { at: list.end() });
-        }
-        let Ok(stop) = take_frames(&buffer[..count], count < PIECE, &mut list) else {
-            return Err(WhyNot::OutOfMemory);
-        };
-        match stop {
-            Stop::Closed => return kept(list),
-            Stop::Broken => return Err(WhyNot::Damaged { at: list.end() }),
-            Stop::Cut => {}
+        match read_piece(disk, &mut buffer, &mut list) {
+            Err(why) => return Err(why),
+            Ok(Stop::Closed) => return kept(list),
+            Ok(Stop::Broken) => return Err(WhyNot::Damaged { at: list.end() }),
+            Ok(Stop::Cut) => {}
         }
     }
 }
