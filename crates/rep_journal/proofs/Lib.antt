@@ -5,5 +5,6 @@ mod KindLemmas
 mod ListLemmas
 mod MomentLemmas
 mod PutLemmas
+mod ReadLemmas
 mod ScanLemmas
 mod UniqueLemmas

@@ -57,6 +57,7 @@ impl FrameList {
     pub fn end(&self) -> u64
         ensures end { result ≡ end_of self.now.frames }
         ensures within { result ≤ end_of_journals }
+        ensures limit { length self.now.frames ≤ most_frames }
         ensures well_formed { AreFrames self.now.frames }
     {
         self.end

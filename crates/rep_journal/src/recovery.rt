@@ -5,6 +5,7 @@ ghost use Rattle.rep_journal.specs.Head.{IsOpen};
 ghost use Rattle.rep_journal.specs.State.{IsKeptBy, IsRead, MakesCalls};
 ghost use Rattle.rep_journal.specs.Recovery.{RestsFrom};
 ghost use Rattle.rep_journal.specs.Finding.{Finds};
+ghost use Rattle.rep_journal.specs.Listed.{most_frames};
 ghost use Rattle.rep_journal.specs.Scan.{IsScanned, IsScannedTo};
 
 use crate::error::WhyNot;
@@ -46,6 +47,7 @@ fn read_piece<D: Disk>(
     requires { length buffer.old ≡ 65536 }
     ensures scans { IfSome (D.shown disk.old).contents (λ bytes. IsScanned bytes list.old.frames
         → IfOk result (λ stop. IsScannedTo bytes list.new.frames stop)) }
+    ensures limit { length list.old.frames ≤ most_frames }
     ensures more { result ≡ Ok Stop.Cut → length list.old.frames < length list.new.frames }
     ensures why { IfErr result (λ why. (why ≡ WhyNot.DeviceFault) ⊎ (why ≡ WhyNot.OutOfMemory)) }
     ensures kept { IsRead (D.shown disk.old) (D.shown disk.new) }
@@ -64,11 +66,37 @@ fn read_piece<D: Disk>(
     }
 }
 
-/// Reads the frames of contents that have the magic and an open first gate.
+/// Reads the frames of contents that have the magic and an open first gate, piece by piece.
+fn read_pieces<D: Disk>(
+    disk: &mut D,
+    buffer: &mut [u8],
+    list: FrameList,
+) -> Result<FrameList, WhyNot>
+    requires open_first { IfSome (D.shown disk.old).contents IsOpen }
+    requires size { length buffer.old ≡ 65536 }
+    requires none { list.frames ≡ [] }
+    ensures finds { Finds (D.shown disk.old).contents result }
+    ensures some { IfOk result (λ found. 1 ≤ length found.frames) }
+    ensures not_present { IfErr result (λ why. why ≢ WhyNot.Present) }
+    ensures kept { IsRead (D.shown disk.old) (D.shown disk.new) }
+    ensures cause { IfErr result (λ why. why ≡ WhyNot.DeviceFault → Rose (D.shown disk.old).faults (D.shown disk.new).faults) }
+{
+    let mut list = list;
+    loop {
+        match read_piece(disk, buffer, &mut list) {
+            Err(why) => return Err(why),
+            Ok(Stop::Closed) => return kept(list),
+            Ok(Stop::Broken) => return Err(WhyNot::Damaged { at: list.end() }),
+            Ok(Stop::Cut) => {}
+        }
+    }
+}
+
+/// The same, with a buffer for a piece.
 fn read_frames<D: Disk>(alloc: Global, disk: &mut D) -> Result<FrameList, WhyNot>
     requires { IfSome (D.shown disk.old).contents IsOpen }
     ensures finds { Finds (D.shown disk.old).contents result }
-    ensures some { IfOk result (λ list. 1 ≤ length list.frames) }
+    ensures some { IfOk result (λ found. 1 ≤ length found.frames) }
     ensures not_present { IfErr result (λ why. why ≢ WhyNot.Present) }
     ensures kept { IsRead (D.shown disk.old) (D.shown disk.new) }
     ensures cause { IfErr result (λ why. why ≡ WhyNot.DeviceFault → Rose (D.shown disk.old).faults (D.shown disk.new).faults) }
@@ -76,15 +104,7 @@ fn read_frames<D: Disk>(alloc: Global, disk: &mut D) -> Result<FrameList, WhyNot
     let Ok(mut buffer) = zeros(alloc) else {
         return Err(WhyNot::OutOfMemory);
     };
-    let mut list = FrameList::new(alloc);
-    loop {
-        match read_piece(disk, &mut buffer, &mut list) {
-            Err(why) => return Err(why),
-            Ok(Stop::Closed) => return kept(list),
-            Ok(Stop::Broken) => return Err(WhyNot::Damaged { at: list.end() }),
-            Ok(Stop::Cut) => {}
-        }
-    }
+    read_pieces(disk, &mut buffer, FrameList::new(alloc))
 }
 
 /// Makes sure of the contents, and reads their frames.
