@@ -34,7 +34,7 @@ broken_magic bytes at b = (frames_text b.before ++ open_gate ∷ b.rest, b.text 
 none_behind : (bytes : List ℕ) (at : ℕ) (b : BrokenAt bytes at) (frame : Framed) → HasFrame b.rest frame → ⊥
 none_behind bytes at b frame has = b.broken frame has.1.0 has.1.1 has.0 has.1.2
 
-kept_not_broken : (bytes : List ℕ) (at : ℕ) (fs : List Framed) → BrokenAt bytes at → IsJournalOf bytes fs → ⊥
+pub kept_not_broken : (bytes : List ℕ) (at : ℕ) (fs : List Framed) → BrokenAt bytes at → IsJournalOf bytes fs → ⊥
 kept_not_broken bytes at fs b j =
     not_both fs b.before j.gate j.rest b.rest j.well_formed b.well_formed j.closed (none_behind bytes at b)
     (behind_magic fs (j.gate ∷ j.rest) _ (sym j.text ∙ b.text ∙ append_assoc magic (frames_text b.before) (open_gate ∷ b.rest)))

@@ -4,6 +4,7 @@ mod HeadLemmas
 mod KindLemmas
 mod ListLemmas
 mod MomentLemmas
+mod OutcomeLemmas
 mod PutLemmas
 mod ReadLemmas
 mod ScanLemmas

@@ -1,11 +1,12 @@
 -- Reading on, piece by piece.
-use Rattle.std.proofs.Common.{◌≡◌, ◌≢◌, ◌⊎◌, inl, inr, ℕ, ◌+◌, ◌<◌, ◌≤◌, List, [], ◌∷◌, ◌++◌, length, Some, None, Option, Ok, Err, Result, refl, sym, ap, ◌∙◌, subst, arith}
+use Rattle.std.proofs.Common.{◌≡◌, ◌≢◌, ◌⊎◌, inl, inr, ℕ, ◌+◌, ◌*◌, ◌<◌, ◌≤◌, List, [], ◌∷◌, ◌++◌, length, Some, None, Option, Ok, Err, Result, refl, sym, ap, ◌∙◌, subst, arith}
 use Rattle.std.specs.Prelude.{IfErr, IfOk, IfSome, ◌↔◌}
 use Rattle.std.proofs.lemmas.List.{append-nil}
 use Rattle.std.proofs.lemmas.Bool.{cases_lt}
-use Rattle.rep_disk.specs.Disk.{Shown, Stays, Stayed, last_moment}
+use Rattle.rep_disk.specs.Disk.{Shown, IsAtRest, IsOwnImage, Moves, Same, Stays, last_moment}
 use Rattle.rep_journal.specs.Format.{magic, open_gate, Framed, IsJournalOf, IsOfKind, Keeps, end_of}
-use Rattle.rep_journal.specs.State.{IsRead}
+use Rattle.rep_journal.specs.State.{IsKeptBy, IsRead, MakesCalls}
+use Rattle.rep_journal.specs.Recovery.{RestsFrom}
 use Rattle.rep_journal.specs.Listed.{Listed}
 use Rattle.rep_journal.specs.Head.{IsOpen}
 use Rattle.rep_journal.specs.Scan.{IsScanned, EndsBroken, IsScannedTo}
@@ -96,3 +97,57 @@ ends_kept (Some bytes) list (Err why) j same some none =
 pub record IsReading (old now : Shown) (frames : List Framed) : Type 0 where
   pub read : IsRead old now
   pub scanned : IfSome old.contents (λ b. IsScanned b frames)
+
+-- After the sync that comes first.
+module _ (old mid new : Shown) (one : MakesCalls 1 old mid) (read : IsRead mid new) where
+  later_than : old.moment ≤ new.moment
+  later_than = let le = read.later in omega arith
+
+  kept_images : Moves Same old mid → Moves Same old new
+  kept_images moves before =
+      let le = read.later in
+      let a = moves (omega arith) in
+      let b = read.crash before in
+      let start : (image : List ℕ) → mid.may_leave mid.moment image → old.may_leave old.moment image = λ image leaves.
+      let was = a.images mid.moment image (omega arith) (omega arith) leaves in
+      subst (old.may_leave old.moment) (sym was.2) was.1 in
+      record {
+        past = λ m image at. both_ways (b.past m image (omega arith)) (a.past m image at);
+        images = λ m image after to leaves. elim (cases_lt mid.moment m) [
+          | inl behind ↦ (image, start image ((b.images m image behind to).0 leaves), refl)
+          | inr ahead ↦ a.images m image after ahead ((b.past m image ahead).0 leaves)
+        ];
+        settles = λ m later image after le_later to leaves. elim (cases_lt mid.moment later) [
+          | inr early ↦ (b.past m image (omega arith)).1 (a.settles m later image after le_later early ((b.past later image early).0 leaves))
+          | inl late ↦
+              let at_mid = (b.images later image late to).0 leaves in
+              elim (cases_lt mid.moment m) [
+                | inl behind ↦ (b.images m image behind (omega arith)).1 at_mid
+                | inr ahead ↦ (b.past m image ahead).1 (a.settles m mid.moment image after ahead (omega arith) at_mid)
+              ]
+        ];
+      }
+
+  pub kept_by : mid.contents ≡ old.contents → Moves Same old mid → IsOwnImage old ↔ IsOwnImage mid → old.faults ≤ mid.faults → IsKeptBy old new
+  kept_by same moves own faults =
+      let more = read.faults in
+      record {
+        contents = read.contents ∙ same;
+        later = later_than;
+        crash = kept_images moves;
+        own = both_ways own read.own;
+        faults = omega arith;
+      }
+
+  pub rests : IsAtRest mid → RestsFrom (old.moment + 2) new
+  rests rest before =
+      let le = read.later in
+      let b = read.crash before in
+      let told : (image : List ℕ) → mid.may_leave mid.moment image → IfSome new.contents (λ bytes. image ≡ bytes) = λ image leaves.
+      subst (λ (contents : Option (List ℕ)). IfSome contents (λ bytes. image ≡ bytes)) (sym read.contents) (rest (omega arith) image leaves) in
+      (omega arith, λ m image from to leaves. elim (cases_lt mid.moment m) [
+        | inl behind ↦ told image ((b.images m image behind to).0 leaves)
+        | inr ahead ↦
+            let here : m ≡ mid.moment = omega arith in
+            told image (subst (λ (n : ℕ). mid.may_leave n image) here ((b.past m image ahead).0 leaves))
+      ])

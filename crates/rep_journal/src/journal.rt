@@ -38,9 +38,9 @@ impl<D: Disk> Model for Journal<D> {
 
 impl<D: Disk> Journal<D> {
     ghost use Rattle.rep_journal.specs.Format.{BrokenAt, IsBlank, IsForeign, IsOfKind, IsPresent, Keeps, gate_at};
-    ghost use Rattle.rep_journal.specs.State.{Appends, Begins, FailsToBegin, IsKeptBy, IsRead, IsSame, IsSettled, MakesCalls, StopsAt};
+    ghost use Rattle.rep_journal.specs.State.{Appends, Begins, FailsToBegin, IsKeptBy, IsRead, IsSame, IsSettled, StopsAt};
     ghost use Rattle.rep_journal.specs.Recovery.{Creates, Puts, RestsFrom};
-    ghost use Rattle.rep_journal.specs.Outcome.{Refuses};
+    ghost use Rattle.rep_journal.specs.Outcome.{Refuses, RestsUnlessFailed};
     ghost use Rattle.rep_journal.specs.Fields.{IsBlankBy};
     ghost use Rattle.rep_journal.specs.Listed.{most_frames};
 
@@ -152,7 +152,7 @@ impl<D: Disk> Journal<D> {
         ensures kept { MatchResult result (λ journal. IsKeptBy (D.shown disk) (D.shown journal.disk)) (λ e. IsKeptBy (D.shown disk) (D.shown e.disk)) }
         ensures rest { MatchResult result
             (λ journal. RestsFrom ((D.shown disk).moment + 2) (D.shown journal.disk))
-            (λ e. ((e.why ≡ WhyNot.DeviceFault) × MakesCalls 1 (D.shown disk) (D.shown e.disk)) ⊎ RestsFrom ((D.shown disk).moment + 2) (D.shown e.disk)) }
+            (λ e. RestsUnlessFailed e.why (D.shown disk) (D.shown e.disk)) }
     {
         let mut disk = disk;
         match find(alloc, &mut disk) {

@@ -1,9 +1,10 @@
 //! The frames of contents.
-ghost use Rattle.std.specs.Prelude.{◌≡◌, ◌≢◌, ◌⊎◌, ◌+◌, ◌<◌, ◌≤◌, [], length, IfErr, IfOk, IfSome};
+ghost use Rattle.std.specs.Prelude.{◌≡◌, ◌≢◌, ◌⊎◌, ◌+◌, ◌<◌, ◌≤◌, [], length, IfErr, IfOk, IfSome, MatchResult};
 ghost use Rattle.rep_io.specs.Causes.{Rose};
 ghost use Rattle.rep_journal.specs.Head.{IsOpen};
-ghost use Rattle.rep_journal.specs.State.{IsKeptBy, IsRead, MakesCalls};
+ghost use Rattle.rep_journal.specs.State.{IsKeptBy, IsRead};
 ghost use Rattle.rep_journal.specs.Recovery.{RestsFrom};
+ghost use Rattle.rep_journal.specs.Outcome.{RestsUnlessFailed};
 ghost use Rattle.rep_journal.specs.Finding.{Finds};
 ghost use Rattle.rep_journal.specs.Listed.{most_frames};
 ghost use Rattle.rep_journal.specs.Scan.{IsScanned, IsScannedTo};
@@ -113,7 +114,9 @@ pub(crate) fn find<D: Disk>(alloc: Global, disk: &mut D) -> Result<FrameList, Wh
     ensures not_present { IfErr result (λ why. why ≢ WhyNot.Present) }
     ensures kept { IsKeptBy (D.shown disk.old) (D.shown disk.new) }
     ensures some { IfOk result (λ list. 1 ≤ length list.frames) }
-    ensures rest { IfErr result (λ why. (why ≡ WhyNot.DeviceFault) × MakesCalls 1 (D.shown disk.old) (D.shown disk.new)) ⊎ RestsFrom ((D.shown disk.old).moment + 2) (D.shown disk.new) }
+    ensures rest { MatchResult result
+        (λ _. RestsFrom ((D.shown disk.old).moment + 2) (D.shown disk.new))
+        (λ why. RestsUnlessFailed why (D.shown disk.old) (D.shown disk.new)) }
     ensures cause { IfErr result (λ why. why ≡ WhyNot.DeviceFault → Rose (D.shown disk.old).faults (D.shown disk.new).faults) }
 {
     if disk.sync().is_err() {
