@@ -44,6 +44,7 @@ fn a_crash_in_each_call_of_a_put(rt: HostRuntime) -> Result<(), Fail> {
 }
 
 // The call of a `put` that fails.
+#[derive(Clone, Copy)]
 enum Call {
     FirstWrite,
     FirstSync,
