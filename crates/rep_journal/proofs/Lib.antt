@@ -1,0 +1,11 @@
+mod BlankLemmas
+mod FormatLemmas
+mod HeadLemmas
+mod KindLemmas
+mod ListLemmas
+mod MomentLemmas
+mod OutcomeLemmas
+mod PutLemmas
+mod ReadLemmas
+mod ScanLemmas
+mod UniqueLemmas

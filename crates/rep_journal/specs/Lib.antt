@@ -1,0 +1,10 @@
+pub mod Format
+pub mod Listed
+pub mod State
+pub mod Recovery
+pub mod Outcome
+pub mod Fields
+pub mod Putting
+pub mod Head
+pub mod Scan
+pub mod Finding

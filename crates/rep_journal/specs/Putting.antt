@@ -1,0 +1,29 @@
+-- What the parts of a `put` and of `create` do: this project's own.
+use Rattle.std.specs.Prelude.{◌≡◌, ◌⊎◌, ℕ, ◌<◌, ◌≤◌, Bool, IsTrue, List, length, drop, MatchBool, MatchResult, Option, Result}
+use Rattle.rep_disk.specs.Disk.{Shown, Changes, Torn, Written}
+use Rattle.rep_journal.specs.State.{CountsCalls, MakesCalls}
+
+-- the write of a piece failed, which leaves it torn, or its sync failed, which leaves it written
+abbrev pub FailsToWrite : ℕ → List ℕ → Shown → Shown → Type 0
+FailsToWrite at piece old new =
+    (MakesCalls 1 old new × Changes (Torn at (length piece)) old.contents new.contents)
+    ⊎ (MakesCalls 2 old new × Changes (Written at piece) old.contents new.contents)
+
+-- a piece was written and made sure of, by two device calls
+abbrev pub WritesSurely : {E : Type 0} → ℕ → List ℕ → Shown → Shown → Result (Unit {0}) E → Type 0
+WritesSurely at piece old new result =
+    MatchResult result (λ _. MakesCalls 2 old new × Changes (Written at piece) old.contents new.contents) (λ _. FailsToWrite at piece old new)
+
+-- the calls for the magic, or none
+abbrev pub CountsBlankCalls : {T E : Type 0} → Bool → Shown → Shown → Result T E → Type 0
+CountsBlankCalls is_short old new result =
+    MatchResult result (λ _. MatchBool is_short (MakesCalls 2 old new) (MakesCalls 0 old new))
+    (λ _. IsTrue is_short × ((n : ℕ) × (0 < n) × (n ≤ 2) × MakesCalls n old new))
+
+-- the calls for the magic and the first frame, or for the first frame alone
+abbrev pub CountsCreateCalls : {T E : Type 0} → Bool → Shown → Shown → Result T E → Type 0
+CountsCreateCalls is_short old new result = MatchBool is_short (CountsCalls 6 old new result) (CountsCalls 4 old new result)
+
+-- what lies behind the magic and its gate is as it was
+abbrev pub SameBehind : List ℕ → List ℕ → Type 0
+SameBehind was bytes = (n : ℕ) → 17 ≤ n → drop n bytes ≡ drop n was
