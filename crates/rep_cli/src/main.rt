@@ -9,10 +9,11 @@ mod system_clock;
 #[cfg(test)]
 mod tests;
 
-ghost use Rattle.std.specs.Prelude.{◌≡◌, ◌⊎◌, ◌∷◌, [], map, string_bytes};
+ghost use Rattle.std.specs.Prelude.{◌≡◌, ◌≢◌, ◌⊎◌, ◌∷◌, [], map, string_bytes};
+ghost use Rattle.rep_top.specs.Words.{IsOnGrammar};
 ghost use Rattle.rep_cli.specs.Notices.{notice_word};
 
-use notice::{DONE, Notice, SINK_FAULT, asked_notice, print_text};
+use notice::{DONE, Notice, SINK_FAULT, answer_notice, print_text};
 use output_sink::OutputSink;
 use rep_io::OutOfMemory;
 use rep_top::top;
@@ -50,10 +51,23 @@ fn own_words<R: Env + Alloc<A = Global>>(alloc: Global, rt: &R) -> io::Result<Ve
 fn answer<R: Files + Print + Clock>(alloc: Global, rt: &R, words: &[String]) -> u8
     ensures notice { (notice : Notice) → map string_bytes words.now ≡ notice_word notice ∷ []
         → (result ≡ DONE) ⊎ (result ≡ SINK_FAULT) }
+    ensures wrong_words { ¬ IsOnGrammar (map string_bytes words.now)
+        → ((notice : Notice) → map string_bytes words.now ≡ notice_word notice ∷ [] → ⊥)
+        → (result ≡ 2) ⊎ (result ≡ NO_MEMORY) }
+    ensures command { IsOnGrammar (map string_bytes words.now)
+        → ((notice : Notice) → map string_bytes words.now ≡ notice_word notice ∷ [] → ⊥) → result ≢ 2 }
 {
-    if let Some(notice) = asked_notice(words) {
-        return print_text(&mut OutputSink::standard(rt), notice.text());
+    match answer_notice(&mut OutputSink::standard(rt), words) {
+        Some(status) => status,
+        None => run(alloc, rt, words),
     }
+}
+
+/// Runs the command that the words ask for, over the files that they name, standard output and the system's clock.
+fn run<R: Files + Print + Clock>(alloc: Global, rt: &R, words: &[String]) -> u8
+    ensures wrong_words { ¬ IsOnGrammar (map string_bytes words.now) → (result ≡ 2) ⊎ (result ≡ NO_MEMORY) }
+    ensures command { IsOnGrammar (map string_bytes words.now) → result ≢ 2 }
+{
     match rig_for(alloc, rt, words) {
         Ok(rig) => top(alloc, words, rig).status,
         Err(OutOfMemory) => tell_no_memory(rt),

@@ -1,4 +1,4 @@
-ghost use Rattle.std.specs.Prelude.{◌≡◌, ◌⊎◌, ◌∷◌, [], map, string_bytes, IfSome};
+ghost use Rattle.std.specs.Prelude.{◌≡◌, ◌⊎◌, ◌∷◌, [], None, Some, map, string_bytes, IfSome, IsSome};
 ghost use Rattle.std.specs.Io.KnownBytes.{append_known};
 ghost use Rattle.rep_io.specs.Causes.{Rose};
 ghost use Rattle.rep_cli.specs.Notices.{notice_word};
@@ -85,6 +85,23 @@ fn notice_of(word: &str) -> Option<Notice>
         "--help" => Some(Notice::Help),
         "--version" => Some(Notice::Version),
         _ => None,
+    }
+}
+
+/// Writes the notice that the words ask for to the output, and answers the program's status. `None` exactly where they
+/// ask for none; then nothing is written.
+pub fn answer_notice<K: Sink>(out: &mut K, words: &[String]) -> Option<u8>
+    ensures none { result ≡ None → (notice : Notice) → map string_bytes words.now ≡ notice_word notice ∷ [] → ⊥ }
+    ensures status { IfSome result (λ status. (status ≡ DONE) ⊎ (status ≡ SINK_FAULT)) }
+    ensures asked { IsSome result → (notice : Notice) × (map string_bytes words.now ≡ notice_word notice ∷ []) }
+    ensures help { map string_bytes words.now ≡ notice_word Notice.Help ∷ [] → result ≡ Some DONE
+        → K.written out.new ≡ append_known (K.written out.old) HELP.now }
+    ensures version { map string_bytes words.now ≡ notice_word Notice.Version ∷ [] → result ≡ Some DONE
+        → K.written out.new ≡ append_known (K.written out.old) VERSION.now }
+{
+    match asked_notice(words) {
+        Some(notice) => Some(print_text(out, notice.text())),
+        None => None,
     }
 }
 

@@ -144,10 +144,12 @@ module _ (old mid new : Shown) (one : MakesCalls 1 old mid) (read : IsRead mid n
       let le = read.later in
       let b = read.crash before in
       let told : (image : List ℕ) → mid.may_leave mid.moment image → IfSome new.contents (λ bytes. image ≡ bytes) = λ image leaves.
-      subst (λ (contents : Option (List ℕ)). IfSome contents (λ bytes. image ≡ bytes)) (sym read.contents) (rest (omega arith) image leaves) in
-      (omega arith, λ m image from to leaves. elim (cases_lt mid.moment m) [
-        | inl behind ↦ told image ((b.images m image behind to).0 leaves)
-        | inr ahead ↦
-            let here : m ≡ mid.moment = omega arith in
-            told image (subst (λ (n : ℕ). mid.may_leave n image) here ((b.past m image ahead).0 leaves))
-      ])
+      subst (λ (contents : Option (List ℕ)). IfSome contents (λ bytes. image ≡ bytes)) (sym read.contents) (rest (omega arith) image leaves) in (
+        omega arith,
+        λ m image from to leaves. elim (cases_lt mid.moment m) [
+          | inl behind ↦ told image ((b.images m image behind to).0 leaves)
+          | inr ahead ↦
+              let here : m ≡ mid.moment = omega arith in
+              told image (subst (λ (n : ℕ). mid.may_leave n image) here ((b.past m image ahead).0 leaves))
+        ],
+      )
