@@ -76,6 +76,8 @@ impl<'a> Fields<'a> {
     /// # Errors
     ///
     /// The field's number where it makes nothing of it.
+    // inlined, since a text that is handed on from function to function is copied each time
+    #[inline(always)]
     pub fn read<V, F: FnOnce(&[u8]) -> Option<V>>(&self, number: u8, read: F) -> Result<V, BadAej>
         requires least { 1 ≤ number }
         requires most { number ≤ MOST_FIELDS }
@@ -88,6 +90,7 @@ impl<'a> Fields<'a> {
     }
 
     /// The same of a field that may be empty.
+    #[inline(always)]
     pub fn read_optional<V, F: FnOnce(&[u8]) -> Option<V>>(
         &self,
         number: u8,

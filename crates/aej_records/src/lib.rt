@@ -15,6 +15,7 @@ mod error;
 #[cfg(test)]
 mod field_tests;
 mod fields;
+mod held_line;
 mod kind;
 mod laws;
 mod line;
@@ -26,6 +27,7 @@ mod value;
 mod writing;
 
 pub use error::BadAej;
+pub use held_line::HeldLine;
 pub use kind::LineType;
 pub use laws::{read_lines_can_be_written, written_lines_are_lines};
 pub use line::AejLine;

@@ -90,6 +90,10 @@ length-head : (head : Head) (words : HeadWording) (line : List ℕ) → IsText h
 length-head head words line is =
     ap length is.written ∙ length-concat (fields head words) ∙ ap total (widths-head head words line is)
 
+-- the line of a head has 302 bytes
+pub head_size : (head : Head) (notes : Notes) (line : List ℕ) → IsLooseHeadOf head notes line → length line ≡ 302
+head_size head notes line is = length-head head is.words line (text_of head notes line is)
+
 head_laid_out : (head : Head) (words : HeadWording) (line : List ℕ) → IsText head words line → IsHeadLaidOut line
 head_laid_out head words line is =
     let cut = cuts-head head words line is in

@@ -1,53 +1,177 @@
--- a rig of one text, one file and a clock
-use Rattle.std.proofs.Common.{◌≡◌, ℕ, ℤ, Bool, List, [], ◌∷◌, length, map, get_or, Option, None, Some, is_some, true, Result, Ok, Err, IfOk, refl, sym, ap, ◌∙◌, arith}
-use Rattle.std.proofs.lemmas.List.{length-map}
-use Rattle.rep_top.specs.Words.{IsPrint}
-use Rattle.rep_cli.specs.Paths.{word_at}
-use Rattle.rep_top.specs.declared.rig.Rig.{Rig}
-use Rattle.rep_top.specs.Rigged.{Rigged}
+-- the rig of an errand, by what the words ask for
+use Rattle.std.proofs.Common.{◌≡◌, ℕ, ◌<◌, Bool, List, [], ◌∷◌, ◌++◌, length, map, codes, Option, None, Some, is_some, true, Result, Ok, Err, IfOk, IfSome, refl, ap, ◌∙◌, arith}
+use Rattle.std.specs.Prelude.{All, option_map}
+use Rattle.std.proofs.lemmas.List.{append-nil}
+use Rattle.std.proofs.lemmas.List.Elements.{All-nil, All-cons}
+use Rattle.rep_words.specs.Words.{Asks}
+use Rattle.rep_words.specs.Places.{command_of, disk_of, ending_of, outs_of, texts_of}
+use Rattle.rep_words.specs.Rigged.{IsRigged}
+use Rattle.rep_words.specs.declared.rig.Rig.{Rig}
+use Rattle.rep_words.specs.declared.errand.Command.{Command}
+use Rattle.rep_words.specs.declared.words.Asked.{Asked}
+use Rattle.rep_words.specs.declared.words.Asked.TheVariants.{Print, Create, Run}
+use Rattle.rep_cli.specs.Paths.{disk_path, out_paths, text_paths, word_at}
 
-pub rigged_of : {S K C : Type 0} (texts : List S) (outs : List K) (clock : Option C) → length texts ≡ 1 → length outs ≡ 1 → is_some clock ≡ true → Rigged texts outs clock
-rigged_of [] outs clock t o w = absurd (omega arith)
-rigged_of (a ∷ b ∷ texts) outs clock t o w = absurd (omega arith)
-rigged_of (a ∷ []) [] clock t o w = absurd (omega arith)
-rigged_of (a ∷ []) (b ∷ c ∷ outs) clock t o w = absurd (omega arith)
-rigged_of (a ∷ []) (b ∷ []) None t o w = absurd cc
-rigged_of (a ∷ []) (b ∷ []) (Some c) t o w = record {
-  source = a;
-  file = b;
-  watch = c;
-  text_is = refl;
-  out_is = refl;
-  clock_is = refl;
-}
+-- Lists and options by what they are mapped to
 
--- the rig of an errand that reads one text, writes one file and uses the clock
-pub rigged_if : {E S K C : Type 0} (asked : Type 0) (path : S → List ℕ) (target : K → Option (List ℕ)) (words : List (List ℕ)) (made : Result (Rig S K C) E)
-    (texts outs : List ℕ) (clock : Bool) → texts ≡ 1 ∷ [] → outs ≡ 2 ∷ [] → clock ≡ true
-    → IfOk made (λ rig. map path rig.texts.items ≡ map (word_at words) texts)
-    → IfOk made (λ rig. map target rig.outs.items ≡ map (λ place. Some (word_at words place)) outs)
-    → IfOk made (λ rig. is_some rig.clock ≡ clock)
-    → IfOk made (λ rig. asked → Rigged rig.texts.items rig.outs.items rig.clock)
-rigged_if asked path target words (Ok rig) texts outs clock text out used t o w =
-    let one : length rig.texts.items ≡ 1 = sym (length-map rig.texts.items path) ∙ ap length (t ∙ ap (map (word_at words)) text) in
-    let other : length rig.outs.items ≡ 1 = sym (length-map rig.outs.items target) ∙ ap length (o ∙ ap (map (λ place. Some (word_at words place))) out) in
-    λ _. rigged_of _ _ _ one other (w ∙ used)
-rigged_if asked path target words (Err e) texts outs clock text out used t o w = tt
+none_of : {A B : Type 0} (f : A → B) (xs : List A) → map f xs ≡ [] → xs ≡ []
+none_of f [] e = refl
+none_of f (x ∷ xs) e = absurd cc
 
--- its text is the lane's
-pub reads_if : {E S K C : Type 0} (path : S → List ℕ) (words : List (List ℕ)) (made : Result (Rig S K C) E) (texts : List ℕ) → texts ≡ 1 ∷ []
-    → IfOk made (λ rig. map path rig.texts.items ≡ map (word_at words) texts)
-    → IfOk made (λ rig. (zone : ℤ) (print : IsPrint words zone) (rigged : Rigged rig.texts.items rig.outs.items rig.clock) → path rigged.source ≡ print.lane)
-reads_if path words (Ok rig) texts text t = λ zone print rigged.
-    let one : path rigged.source ∷ [] ≡ word_at words 1 ∷ [] = sym (ap (map path) rigged.text_is) ∙ t ∙ ap (map (word_at words)) text in
-    ap (λ (paths : List (List ℕ)). get_or paths 0 []) one ∙ ap (λ (ws : List (List ℕ)). word_at ws 1) print.spelled
-reads_if path words (Err e) texts text t = tt
+one_of : {A B : Type 0} (f : A → B) (xs : List A) (b : B) → map f xs ≡ b ∷ [] → (x : A) × (xs ≡ x ∷ [])
+one_of f [] b e = absurd cc
+one_of f (x ∷ []) b e = (x, refl)
+one_of f (x ∷ y ∷ xs) b e = (let n : length (f x ∷ f y ∷ map f xs) ≡ 1 = ap length e in absurd (omega arith))
 
--- its file is the one that is written
-pub writes_if : {E S K C : Type 0} (target : K → Option (List ℕ)) (words : List (List ℕ)) (made : Result (Rig S K C) E) (outs : List ℕ) → outs ≡ 2 ∷ []
-    → IfOk made (λ rig. map target rig.outs.items ≡ map (λ place. Some (word_at words place)) outs)
-    → IfOk made (λ rig. (zone : ℤ) (print : IsPrint words zone) (rigged : Rigged rig.texts.items rig.outs.items rig.clock) → target rigged.file ≡ Some print.out)
-writes_if target words (Ok rig) outs out o = λ zone print rigged.
-    let one : target rigged.file ∷ [] ≡ Some (word_at words 2) ∷ [] = sym (ap (map target) rigged.out_is) ∙ o ∙ ap (map (λ place. Some (word_at words place))) out in
-    ap (λ (targets : List (Option (List ℕ))). get_or targets 0 None) one ∙ ap (λ (ws : List (List ℕ)). Some (word_at ws 2)) print.spelled
-writes_if target words (Err e) outs out o = tt
+two_of : {A B : Type 0} (f : A → B) (xs : List A) (b c : B) → map f xs ≡ b ∷ c ∷ [] → (x : A) × (y : A) × (xs ≡ x ∷ y ∷ [])
+two_of f [] b c e = absurd cc
+two_of f (x ∷ []) b c e = (let n : length (f x ∷ []) ≡ 2 = ap length e in absurd (omega arith))
+two_of f (x ∷ y ∷ []) b c e = (x, y, refl)
+two_of f (x ∷ y ∷ z ∷ xs) b c e = (let n : length (f x ∷ f y ∷ f z ∷ map f xs) ≡ 2 = ap length e in absurd (omega arith))
+
+absent_of : {A B : Type 0} (f : A → B) (x : Option A) → option_map f x ≡ None → x ≡ None
+absent_of f None e = refl
+absent_of f (Some a) e = absurd cc
+
+present_of : {A B : Type 0} (f : A → B) (x : Option A) (b : B) → option_map f x ≡ Some b → (a : A) × (x ≡ Some a)
+present_of f None b e = absurd cc
+present_of f (Some a) b e = (a, refl)
+
+there_of : {A : Type 0} (x : Option A) → is_some x ≡ true → (a : A) × (x ≡ Some a)
+there_of None e = absurd cc
+there_of (Some a) e = (a, refl)
+
+-- The places of an errand
+
+abbrev Within : List (List ℕ) → ℕ → Type 0
+Within words place = place < length words
+
+pub texts_within : (words : List (List ℕ)) (asked : Asked) → Asks words asked → All (Within words) (texts_of asked)
+texts_within words (Print zone) print =
+    let n : length words ≡ 4 = ap length print.spelled in
+    All-cons (Within words) 1 [] (omega arith) (All-nil (Within words))
+texts_within words Create create =
+    let n : length words ≡ 3 = ap length create.spelled in
+    All-cons (Within words) 1 [] (omega arith) (All-nil (Within words))
+texts_within words Run run =
+    let n : length words ≡ 4 = ap length run.spelled in
+    All-cons (Within words) 1 (3 ∷ []) (omega arith) (All-cons (Within words) 3 [] (omega arith) (All-nil (Within words)))
+
+pub outs_within : (words : List (List ℕ)) (asked : Asked) → Asks words asked → All (Within words) (outs_of asked)
+outs_within words (Print zone) print =
+    let n : length words ≡ 4 = ap length print.spelled in
+    All-cons (Within words) 2 [] (omega arith) (All-nil (Within words))
+outs_within words Create create = All-nil (Within words)
+outs_within words Run run =
+    let n : length words ≡ 4 = ap length run.spelled in
+    All-cons (Within words) 3 [] (omega arith) (All-nil (Within words))
+
+pub disk_within : (words : List (List ℕ)) (asked : Asked) → Asks words asked → IfSome (disk_of asked) (Within words)
+disk_within words (Print zone) print = tt
+disk_within words Create create = (let n : length words ≡ 3 = ap length create.spelled in omega arith)
+disk_within words Run run = (let n : length words ≡ 4 = ap length run.spelled in omega arith)
+
+-- The words at those places
+
+texts_named : (words : List (List ℕ)) (asked : Asked) (asks : Asks words asked) → map (word_at words) (texts_of asked) ≡ text_paths words asked asks
+texts_named words (Print zone) print = ap (λ (ws : List (List ℕ)). word_at ws 1 ∷ []) print.spelled
+texts_named words Create create = ap (λ (ws : List (List ℕ)). word_at ws 1 ∷ []) create.spelled
+texts_named words Run run = ap (λ (ws : List (List ℕ)). word_at ws 1 ∷ word_at ws 3 ∷ []) run.spelled
+
+outs_named : (words : List (List ℕ)) (asked : Asked) (asks : Asks words asked)
+    → map (λ (place : ℕ). Some (word_at words place ++ ending_of (command_of asked))) (outs_of asked) ≡ map Some (out_paths words asked asks)
+outs_named words (Print zone) print = ap (λ (ws : List (List ℕ)). Some (word_at ws 2 ++ []) ∷ []) print.spelled ∙ ap (λ (w : List ℕ). Some w ∷ []) (append-nil print.out)
+outs_named words Create create = refl
+outs_named words Run run = ap (λ (ws : List (List ℕ)). Some (word_at ws 3 ++ codes ".out") ∷ []) run.spelled
+
+disk_named : (words : List (List ℕ)) (asked : Asked) (asks : Asks words asked) → option_map (word_at words) (disk_of asked) ≡ disk_path words asked asks
+disk_named words (Print zone) print = refl
+disk_named words Create create = ap (λ (ws : List (List ℕ)). Some (word_at ws 2)) create.spelled
+disk_named words Run run = ap (λ (ws : List (List ℕ)). Some (word_at ws 2)) run.spelled
+
+-- The rig
+
+rigged_of : {S K D C P Q T : Type 0} (path : S → P) (target : K → Q) (root : D → T) (read : ℕ → P) (written : ℕ → Q) (kept : ℕ → T) (texts : List S) (outs : List K) (disk : Option D) (clock : Option C) (asked : Asked)
+    → map path texts ≡ map read (texts_of asked) → map target outs ≡ map written (outs_of asked) → option_map root disk ≡ option_map kept (disk_of asked) → is_some clock ≡ true
+    → IsRigged asked texts outs disk clock
+rigged_of path target root read written kept texts outs disk clock (Print zone) t o d w =
+    let source = one_of path texts (read 1) t in
+    let file = one_of target outs (written 2) o in
+    let watch = there_of clock w in
+    record { source = source.0; file = file.0; watch = watch.0; text_is = source.1; out_is = file.1; disk_is = absent_of root disk d; clock_is = watch.1 }
+rigged_of path target root read written kept texts outs disk clock Create t o d w =
+    let site = one_of path texts (read 1) t in
+    let drive = present_of root disk (kept 2) d in
+    let watch = there_of clock w in
+    record { site = site.0; drive = drive.0; watch = watch.0; text_is = site.1; out_is = none_of target outs o; disk_is = drive.1; clock_is = watch.1 }
+rigged_of path target root read written kept texts outs disk clock Run t o d w =
+    let sources = two_of path texts (read 1) (read 3) t in
+    let replies = one_of target outs (written 3) o in
+    let drive = present_of root disk (kept 2) d in
+    let watch = there_of clock w in
+    record {
+      site = sources.0;
+      lane = sources.1;
+      replies = replies.0;
+      drive = drive.0;
+      watch = watch.0;
+      text_is = sources.2;
+      out_is = replies.1;
+      disk_is = drive.1;
+      clock_is = watch.1;
+    }
+
+module _ {E S K D C : Type 0} (path : S → List ℕ) (target : K → Option (List ℕ)) (root : D → List ℕ) (words : List (List ℕ)) (made : Result (Rig S K D C) E) where
+  pub rigged_if : (command : Command) (texts outs : List ℕ) (disk : Option ℕ) (clock : Bool)
+      → ((asked : Asked) → Asks words asked → texts ≡ texts_of asked) → ((asked : Asked) → Asks words asked → outs ≡ outs_of asked)
+      → ((asked : Asked) → Asks words asked → disk ≡ disk_of asked) → clock ≡ true
+      → IfOk made (λ rig. map path rig.texts.items ≡ map (word_at words) texts)
+      → IfOk made (λ rig. map target rig.outs.items ≡ map (λ place. Some (word_at words place ++ ending_of command)) outs)
+      → IfOk made (λ rig. option_map root rig.disk ≡ option_map (word_at words) disk)
+      → IfOk made (λ rig. is_some rig.clock ≡ clock)
+      → IfOk made (λ rig. (asked : Asked) → Asks words asked → IsRigged asked rig.texts.items rig.outs.items rig.disk rig.clock)
+  rigged_if command texts outs disk clock ts os ds used t o d w = by made t o d w
+    where
+      by : (made : Result (Rig S K D C) E) → IfOk made (λ rig. map path rig.texts.items ≡ map (word_at words) texts)
+          → IfOk made (λ rig. map target rig.outs.items ≡ map (λ place. Some (word_at words place ++ ending_of command)) outs)
+          → IfOk made (λ rig. option_map root rig.disk ≡ option_map (word_at words) disk)
+          → IfOk made (λ rig. is_some rig.clock ≡ clock)
+          → IfOk made (λ rig. (asked : Asked) → Asks words asked → IsRigged asked rig.texts.items rig.outs.items rig.disk rig.clock)
+      by (Err e) t o d w = tt
+      by (Ok rig) t o d w = λ asked asks.
+          rigged_of path target root (word_at words) (λ place. Some (word_at words place ++ ending_of command)) (word_at words) rig.texts.items rig.outs.items rig.disk rig.clock asked
+          (t ∙ ap (map (word_at words)) (ts asked asks)) (o ∙ ap (map (λ place. Some (word_at words place ++ ending_of command))) (os asked asks))
+          (d ∙ ap (option_map (word_at words)) (ds asked asks)) (w ∙ used)
+
+  pub reads_if : (texts : List ℕ) → ((asked : Asked) → Asks words asked → texts ≡ texts_of asked)
+      → IfOk made (λ rig. map path rig.texts.items ≡ map (word_at words) texts)
+      → IfOk made (λ rig. (asked : Asked) (asks : Asks words asked) → map path rig.texts.items ≡ text_paths words asked asks)
+  reads_if texts ts t = by made t
+    where
+      by : (made : Result (Rig S K D C) E) → IfOk made (λ rig. map path rig.texts.items ≡ map (word_at words) texts)
+          → IfOk made (λ rig. (asked : Asked) (asks : Asks words asked) → map path rig.texts.items ≡ text_paths words asked asks)
+      by (Err e) t = tt
+      by (Ok rig) t = λ asked asks. t ∙ ap (map (word_at words)) (ts asked asks) ∙ texts_named words asked asks
+
+  pub writes_if : (command : Command) (outs : List ℕ) → ((asked : Asked) → Asks words asked → command ≡ command_of asked) → ((asked : Asked) → Asks words asked → outs ≡ outs_of asked)
+      → IfOk made (λ rig. map target rig.outs.items ≡ map (λ place. Some (word_at words place ++ ending_of command)) outs)
+      → IfOk made (λ rig. (asked : Asked) (asks : Asks words asked) → map target rig.outs.items ≡ map Some (out_paths words asked asks))
+  writes_if command outs cs os o = by made o
+    where
+      by : (made : Result (Rig S K D C) E) → IfOk made (λ rig. map target rig.outs.items ≡ map (λ place. Some (word_at words place ++ ending_of command)) outs)
+          → IfOk made (λ rig. (asked : Asked) (asks : Asks words asked) → map target rig.outs.items ≡ map Some (out_paths words asked asks))
+      by (Err e) o = tt
+      by (Ok rig) o = λ asked asks.
+          o ∙ ap (map (λ place. Some (word_at words place ++ ending_of command))) (os asked asks)
+          ∙ ap (λ (c : Command). map (λ (place : ℕ). Some (word_at words place ++ ending_of c)) (outs_of asked)) (cs asked asks)
+          ∙ outs_named words asked asks
+
+  pub keeps_if : (disk : Option ℕ) → ((asked : Asked) → Asks words asked → disk ≡ disk_of asked)
+      → IfOk made (λ rig. option_map root rig.disk ≡ option_map (word_at words) disk)
+      → IfOk made (λ rig. (asked : Asked) (asks : Asks words asked) → option_map root rig.disk ≡ disk_path words asked asks)
+  keeps_if disk ds d = by made d
+    where
+      by : (made : Result (Rig S K D C) E) → IfOk made (λ rig. option_map root rig.disk ≡ option_map (word_at words) disk)
+          → IfOk made (λ rig. (asked : Asked) (asks : Asks words asked) → option_map root rig.disk ≡ disk_path words asked asks)
+      by (Err e) d = tt
+      by (Ok rig) d = λ asked asks. d ∙ ap (option_map (word_at words)) (ds asked asks) ∙ disk_named words asked asks

@@ -12,7 +12,7 @@ pub struct FileSource<'a, R: Files> {
     rt: &'a R,
     path: &'a str,
     file: Option<R::File>,
-    faults: u64,
+    pub(crate) faults: u64,
 }
 
 impl<'a, R: Files> FileSource<'a, R> {

@@ -1,6 +1,7 @@
 //! The program: the real files, output and clock, and the call of `top` that does all the rest.
 #![tactic(auto)]
 
+mod file_disk;
 mod file_source;
 mod notice;
 mod output_sink;
@@ -8,9 +9,11 @@ mod rigging;
 mod system_clock;
 #[cfg(test)]
 mod tests;
+#[cfg(test)]
+mod tests_adapters;
 
 ghost use Rattle.std.specs.Prelude.{◌≡◌, ◌≢◌, ◌⊎◌, ◌∷◌, [], map, string_bytes};
-ghost use Rattle.rep_top.specs.Words.{IsOnGrammar};
+ghost use Rattle.rep_words.specs.Words.{IsOnGrammar};
 ghost use Rattle.rep_cli.specs.Notices.{notice_word};
 
 use notice::{DONE, Notice, SINK_FAULT, answer_notice, print_text};
@@ -19,6 +22,7 @@ use rep_io::OutOfMemory;
 use rep_top::top;
 use rigging::rig_for;
 use std::alloc::Global;
+use std::fs::File;
 use std::process::ExitCode;
 use std::rt::{Clock, Env, Files};
 use std::{env, io};
@@ -48,7 +52,7 @@ fn own_words<R: Env + Alloc<A = Global>>(alloc: Global, rt: &R) -> io::Result<Ve
 }
 
 /// Does what the words ask for, and answers the program's status.
-fn answer<R: Files + Print + Clock>(alloc: Global, rt: &R, words: &[String]) -> u8
+fn answer<R: Files<File = File> + Print + Clock>(alloc: Global, rt: &R, words: &[String]) -> u8
     ensures notice { (notice : Notice) → map string_bytes words.now ≡ notice_word notice ∷ []
         → (result ≡ DONE) ⊎ (result ≡ SINK_FAULT) }
     ensures wrong_words { ¬ IsOnGrammar (map string_bytes words.now)
@@ -64,7 +68,7 @@ fn answer<R: Files + Print + Clock>(alloc: Global, rt: &R, words: &[String]) -> 
 }
 
 /// Runs the command that the words ask for, over the files that they name, standard output and the system's clock.
-fn run<R: Files + Print + Clock>(alloc: Global, rt: &R, words: &[String]) -> u8
+fn run<R: Files<File = File> + Print + Clock>(alloc: Global, rt: &R, words: &[String]) -> u8
     ensures wrong_words { ¬ IsOnGrammar (map string_bytes words.now) → (result ≡ 2) ⊎ (result ≡ NO_MEMORY) }
     ensures command { IsOnGrammar (map string_bytes words.now) → result ≢ 2 }
 {

@@ -19,29 +19,41 @@ pub const HELP: &str = "\
 rep - a recorder of working time whose AFD is proved (REP-P, Portaria MTP 671/2021)
 
 usage: rep print LANE OUT ZONE
+       rep create SITE JOURNAL
+       rep run SITE JOURNAL LANE
        rep --help
        rep --version
 
-print records the lines of one lane in an empty history, and writes its AFD.
+print   answers the lines of one lane over an empty history and writes its AFD. Nothing is kept.
+create  makes a journal whose first record is the employer of the site.
+run     answers the lines of one lane over the journal, which keeps what they record.
 
-  LANE  the file of the lane: its first line is L|ORIGIN|00, its second the employer (E|..),
-        each line after it an employee (C|SEQ|I|..) or a clocking made offline (M|..)
-  OUT   the file that the AFD is written to. An older file stays where no AFD is written
-  ZONE  the offset of the recorder's clock from UTC: a sign and four digits, as -0300
+  LANE     the file of a lane: its first line is the head L|ORIGIN|KIND, each line after it a request.
+           print wants an operator's lane, of kind 00, that begins with the employer (E|..)
+  OUT      the file that the AFD is written to. An older file stays where no AFD is written
+  ZONE     the offset of the recorder's clock from UTC: a sign and four digits, as -0300
+  SITE     the file of the site, in TOML: the employer, the recorder, the offset of its clock
+  JOURNAL  the file of the journal. One program at a time works on it
 
-Standard output gets a reply for each line that is recorded (R|..), the counts (RUN|..), and,
-where the status isn't 0, a last line that tells it (FAULT|STATUS|..).
+A line is answered by a receipt (R|..) or a refusal (N|..): print writes the answers to standard output,
+run to a file beside the lane's, whose name is LANE with .out behind it. Standard output gets the
+counts (RUN|..) or CREATED|1, and then, where the status is 2 or more, a line that tells it
+(FAULT|STATUS|..). docs/formats.md and docs/journal-format.md explain the files and these lines.
 
-status   0  each line was recorded, and the AFD is in OUT
+status   0  all was done
+         1  all was done, and some request was refused
          2  the words are those of no command
-         3  a line of the lane was refused: FAULT|3|LANE|1|LINE
+         3  a text was refused: FAULT|3|SITE|KEY or FAULT|3|LANE|1|LINE
          4  a file couldn't be read
          5  a file or standard output couldn't be written
+         6  the journal's file failed, or another program works on it
          7  the clock couldn't be read
          8  there wasn't enough memory
-        10  the lane has more than 268435456 bytes
+         9  the journal's file holds none, or one already, or a damaged one: FAULT|9|..
+        10  a text has more than 268435456 bytes
 
-example: rep print acme.lane acme.afd -0300
+example: rep create site.toml acme.journal
+         rep run site.toml acme.journal workers.lane
 ";
 
 /// What the program tells of itself.

@@ -1,4 +1,4 @@
-ghost use Rattle.std.specs.Prelude.{◌≡◌, ◌<◌, ◌≤◌, None, Some, IfOk, length, option_copied};
+ghost use Rattle.std.specs.Prelude.{◌≡◌, ◌<◌, ◌≤◌, None, Some, IfOk, length, option_map, string_bytes};
 
 use rep_io::{Failed, Sink};
 use std::fs::File;
@@ -10,15 +10,15 @@ use std::rt::Files;
 pub struct OutputSink<'a, R: Files + Print> {
     rt: &'a R,
     /// The path of the file; none for standard output.
-    path: Option<&'a str>,
+    path: Option<String>,
     file: Option<R::File>,
-    faults: u64,
+    pub(crate) faults: u64,
 }
 
 impl<'a, R: Files + Print> OutputSink<'a, R> {
     /// Standard output.
     pub fn standard(rt: &'a R) -> Self
-        ensures path { option_copied result.path ≡ None }
+        ensures path { option_map string_bytes result.path ≡ None }
     {
         OutputSink {
             rt,
@@ -29,8 +29,8 @@ impl<'a, R: Files + Print> OutputSink<'a, R> {
     }
 
     /// The file at a path. It stays as it is until the first call, which empties it, or makes it where it isn't there.
-    pub fn file(rt: &'a R, path: &'a str) -> Self
-        ensures path { option_copied result.path ≡ Some path.now }
+    pub fn file(rt: &'a R, path: String) -> Self
+        ensures path { option_map string_bytes result.path ≡ Some (string_bytes path) }
     {
         OutputSink {
             rt,
@@ -44,7 +44,7 @@ impl<'a, R: Files + Print> OutputSink<'a, R> {
 /// Writes a front of the piece to standard output, or to the file at the path, which is made where it isn't open.
 fn write_to<R: Files + Print>(
     rt: &R,
-    path: Option<&str>,
+    path: &Option<String>,
     file: &mut Option<R::File>,
     piece: &[u8],
 ) -> io::Result<usize>
@@ -56,7 +56,7 @@ fn write_to<R: Files + Print>(
     if let Some(file) = file {
         return file.write(piece);
     }
-    let mut made = File::create(rt, path)?;
+    let mut made = File::create(rt, path.as_str())?;
     let count = made.write(piece)?;
     *file = Some(made);
     Ok(count)
@@ -69,7 +69,7 @@ fn write_to<R: Files + Print>(
 /// One of the system's, or `WriteZero` where nothing was taken of a piece that isn't empty.
 fn write_some<R: Files + Print>(
     rt: &R,
-    path: Option<&str>,
+    path: &Option<String>,
     file: &mut Option<R::File>,
     piece: &[u8],
 ) -> io::Result<usize>
@@ -89,7 +89,7 @@ impl<'a, R: Files + Print> Sink for OutputSink<'a, R> {
     ghost faults = { λ s. s.faults };
 
     fn write(&mut self, piece: &[u8]) -> Result<usize, Failed> {
-        match write_some(self.rt, self.path, &mut self.file, piece) {
+        match write_some(self.rt, &self.path, &mut self.file, piece) {
             Ok(count) => Ok(count),
             Err(_) => {
                 self.faults = self.faults.saturating_add(1);

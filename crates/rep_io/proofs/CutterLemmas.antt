@@ -8,8 +8,8 @@ use Rattle.std.proofs.lemmas.List.Elements.{All-nil, All-append}
 use Rattle.std.proofs.Math.Seq.{take-append-add, drop-cons}
 use Rattle.rep_io.specs.Lines.{run_text, runs_of, line_feed, longest_line, longest_text}
 use Rattle.rep_io.specs.Cutter.{Cutter, IsCutter, room_of, HasNoLineFeed, IsUnread, TakesRun, GoesOnPast, IsOver, IsAtLimit}
-use Rattle.rep_io.specs.Next.{Tells, TakesLine, Gives}
-use Rattle.rep_io.specs.Steps.{in_room, EndsAt, NeedsMore, StepsTo, IsOfLine, GivesNow, PassesOver}
+use Rattle.rep_io.specs.Next.{Tells, TakesLine, IsOfLine, Gives}
+use Rattle.rep_io.specs.Steps.{in_room, EndsAt, NeedsMore, StepsTo, GivesNow, PassesOver}
 use Rattle.rep_io.specs.declared.next.Next.{Next}
 use Rattle.rep_io.specs.declared.next.Next.TheVariants.{Line, TooLong, End, SourceFault, InputLimit}
 use Rattle.rep_io.proofs.LineLemmas.{runs_of-ended, runs_of-whole, length-line_of}
@@ -223,6 +223,7 @@ module _ {S : Type 0} (left : S → Option (List ℕ)) where
       let at_limit : IsAtLimit c = record { taken = all; under_way = omega (arith, sound.past past); no_end = subst P (ap (λ n. take n c.held) front) none } in
       record {
         gives = λ text u. (goes_on-past left c sound past none text u, record { unread = u; start = refl });
+        advances = λ of_line. absurd of_line;
         nothing = record { source = refl; taken = refl };
         no_fault = λ e. cc;
         over = λ e. cc;

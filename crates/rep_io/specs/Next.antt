@@ -5,6 +5,18 @@ use Rattle.rep_io.specs.Cutter.{Cutter, line_start, room_of, IsUnread, TakesRun,
 use Rattle.rep_io.specs.declared.next.Next.{Next}
 use Rattle.rep_io.specs.declared.next.Next.TheVariants.{Line, TooLong, End, SourceFault, InputLimit}
 
+-- the answer tells of a line
+abbrev pub IsOfLine : Next → Type 0
+IsOfLine (Line bytes crlf) = Unit {0}
+IsOfLine TooLong = Unit {0}
+IsOfLine End = ⊥
+IsOfLine SourceFault = ⊥
+IsOfLine InputLimit = ⊥
+
+-- the next line begins behind the one that was told
+abbrev pub Advances : {S : Type 0} → Cutter S → Cutter S → Next → Type 0
+Advances old new next = IsOfLine next → line_start old < line_start new
+
 -- what is told of a run: its line, if that isn't too long, and whether a CR stood before its end; or that it's too long
 abbrev pub Tells : Next → Run → Type 0
 Tells (Line bytes crlf) run = (bytes ≡ line_of run) × (length bytes ≤ longest_line) × (crlf ≡ has_return run)

@@ -3,7 +3,7 @@
 use Rattle.std.specs.Prelude.{◌≡◌, ℕ, ◌+◌, ◌-◌, ◌<◌, ◌≤◌, Bool, false, if◌then◌else◌, List, length, take, slice_index, Option}
 use Rattle.rep_io.specs.Lines.{line_feed, longest_line, longest_text}
 use Rattle.rep_io.specs.Cutter.{Cutter, line_start, HasNoLineFeed, IsUnread, Draws, IsOver, IsAtLimit}
-use Rattle.rep_io.specs.Next.{Gives}
+use Rattle.rep_io.specs.Next.{Advances, Gives}
 use Rattle.rep_io.specs.declared.next.Next.{Next}
 use Rattle.rep_io.specs.declared.next.Next.TheVariants.{Line, TooLong, End, SourceFault, InputLimit}
 
@@ -39,14 +39,6 @@ pub record TakesNothing {S : Type 0} (old new : Cutter S) : Type 0 where
   pub source : new.source ≡ old.source
   pub taken : new.taken ≡ old.taken
 
--- the answer tells of a line
-abbrev pub IsOfLine : Next → Type 0
-IsOfLine (Line bytes crlf) = Unit {0}
-IsOfLine TooLong = Unit {0}
-IsOfLine End = ⊥
-IsOfLine SourceFault = ⊥
-IsOfLine InputLimit = ⊥
-
 -- this line was told, or that it is too long
 abbrev pub IsTold : Next → List ℕ → Bool → Type 0
 IsTold (Line bytes with_return) line crlf = (bytes ≡ line) × (length bytes ≤ longest_line) × (with_return ≡ crlf)
@@ -58,6 +50,7 @@ IsTold InputLimit line crlf = ⊥
 -- What a cutter gives of what it has taken. It answers at its end and at the limit as it did before.
 pub record GivesNow {S : Type 0} (left : S → Option (List ℕ)) (old new : Cutter S) (next : Next) : Type 0 where
   pub gives : (text : List ℕ) → IsUnread left old text → Gives left old new next text
+  pub advances : Advances old new next
   pub nothing : TakesNothing old new
   pub no_fault : next ≡ SourceFault → ⊥
   pub over : next ≡ End → IsOver new

@@ -3,7 +3,8 @@ ghost use Rattle.std.specs.Prelude.{◌≡◌, ◌<◌, true, false, length, IsT
 ghost use Rattle.rep_io.specs.Cutter.{HasNoLineFeed};
 ghost use Rattle.rep_io.specs.Lines.{ends_in_return};
 ghost use Rattle.rep_io.specs.Next.{Tells};
-ghost use Rattle.rep_io.specs.Steps.{EndsAt, IsOfLine, IsTold};
+ghost use Rattle.rep_io.specs.Next.{IsOfLine};
+ghost use Rattle.rep_io.specs.Steps.{EndsAt, IsTold};
 
 use crate::next::Next;
 use crate::piece::Piece;

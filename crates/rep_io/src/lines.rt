@@ -2,8 +2,8 @@ ghost use Rattle.std.specs.Prelude.{◌≡◌, ◌⊎◌, ℕ, ◌+◌, ◌<◌,
 ghost use Rattle.rep_io.specs.Causes.{HasCause, Rose};
 ghost use Rattle.rep_io.specs.Lines.{longest_text};
 ghost use Rattle.rep_io.specs.Cutter.{IsCutter, fresh, HasNoLineFeed, IsUnread, Draws, IsOver, IsAtLimit};
-ghost use Rattle.rep_io.specs.Next.{Gives, TakesLine};
-ghost use Rattle.rep_io.specs.Steps.{in_room, EndsAt, NeedsMore, StepsTo, work_of, TakesNothing, IsOfLine, GivesNow, PassesOver};
+ghost use Rattle.rep_io.specs.Next.{Advances, Gives, IsOfLine, TakesLine};
+ghost use Rattle.rep_io.specs.Steps.{in_room, EndsAt, NeedsMore, StepsTo, work_of, TakesNothing, GivesNow, PassesOver};
 
 use crate::cause::Failed;
 use crate::ending::{ended_line, last_line, line_end};
@@ -84,6 +84,7 @@ impl<S: Source> Lines<S> {
     pub fn next(&mut self) -> Next
         ensures unread { (text : List ℕ) → IsUnread S.left self.old text
             → Gives S.left self.old self.new result text }
+        ensures advances { Advances self.old self.new result }
         ensures draws { Draws S.left self.old self.new }
         ensures within { self.new.taken ≤ longest_text + 1 }
         ensures cutter { IsCutter S.left self.new }
@@ -135,6 +136,7 @@ impl<S: Source> Lines<S> {
         ensures takes { (text : List ℕ) → IsUnread S.left self.old text
             → TakesLine S.left self.old self.new result text }
         ensures of_line { IsOfLine result }
+        ensures advances { Advances self.old self.new result }
         ensures nothing { TakesNothing self.old self.new }
         ensures cutter { IsCutter S.left self.new }
     {
@@ -155,6 +157,7 @@ impl<S: Source> Lines<S> {
         ensures gives { (text : List ℕ) → IsUnread S.left self.old text
             → Gives S.left self.old self.new result text }
         ensures kind { (result ≡ Next.End) ⊎ IsOfLine result }
+        ensures advances { Advances self.old self.new result }
         ensures nothing { TakesNothing self.old self.new }
         ensures cutter { IsCutter S.left self.new }
         ensures over { result ≡ Next.End → IsOver self.new }

@@ -1,14 +1,14 @@
 -- What the write of the magic makes of contents and images.
-use Rattle.std.proofs.Common.{◌≡◌, ◌≢◌, ◌⊎◌, inl, inr, ℕ, ◌+◌, ◌*◌, ◌<◌, ◌≤◌, max, min, Bool, true, false, List, [], ◌∷◌, ◌++◌, length, take, drop, Some, None, Option, Ok, Err, Result, refl, sym, ap, ◌∙◌, subst, arith, append_assoc, length-append}
+use Rattle.std.proofs.Common.{◌≡◌, ◌⊎◌, inl, inr, ℕ, ◌+◌, ◌-◌, ◌<◌, ◌≤◌, Bool, true, false, List, [], ◌∷◌, ◌++◌, length, drop, Some, None, Option, Ok, Err, Result, refl, sym, ap, ◌∙◌, subst, arith}
 use Rattle.std.specs.Prelude.{IfSome, IsSome, MatchBool, MatchResult, nat_le, OnErr, OnOk, is_err, ◌↔◌}
-use Rattle.std.proofs.lemmas.List.{append-nil, drop_all}
+use Rattle.std.proofs.lemmas.List.{drop_all}
 use Rattle.std.proofs.lemmas.Bool.{cases_lt, le-leb, lt-leb}
-use Rattle.rep_disk.specs.Disk.{Shown, Torn, Written, Changes, Moves, IsAtRest, last_moment}
-use Rattle.rep_journal.specs.Format.{magic, open_gate, closed_gate, Framed, IsFrame, IsJournalOf, IsBlank, front_text, end_of}
-use Rattle.rep_journal.specs.State.{StandsFor, Becomes, Leaves, IsLeftAt, FailsToAppend, MakesCalls, CountsCalls, MakesCreateCalls}
-use Rattle.rep_journal.specs.Recovery.{BlankMoments, Blanks, CreateMoments, Creates, Puts}
+use Rattle.rep_disk.specs.Disk.{Shown, Torn, Written, Changes, Moves, IsAtRest}
+use Rattle.rep_journal.specs.Format.{magic, closed_gate, Framed, IsJournalOf, IsBlank, front_text, end_of}
+use Rattle.rep_journal.specs.State.{StandsFor, Becomes, Leaves, IsLeftAt, IsLeftBefore, FailsToAppend, FailsToCreate, MakesCalls, CountsCalls, MakesCreateCalls}
+use Rattle.rep_journal.specs.Recovery.{Blanks, Creates, Puts}
 use Rattle.rep_journal.specs.Fields.{IsBlankBy, IsLongBlank}
-use Rattle.rep_journal.specs.Putting.{WritesSurely, CountsBlankCalls, CountsCreateCalls, SameBehind}
+use Rattle.rep_journal.specs.Putting.{WritesSurely, CountsBlankCalls, SameBehind, calls_due}
 use Rattle.rep_journal.proofs.PutLemmas.{changes_to, changes_both}
 use Rattle.rep_journal.proofs.MomentLemmas.{moved_has, rest_has, moved_never_falls, never_falls_on, past_on}
 
@@ -123,12 +123,9 @@ module _ (first : Framed) where
       told_still (Some a) None made told = absurd made
       told_still (Some a) (Some b) made told = refl
 
-  pub first_put : {E : Type 0} (old mid new : Shown) (result : Result (Unit {0}) E) → Becomes [] old.contents mid.contents → OnOk result (Becomes (first ∷ []) mid.contents new.contents) → OnErr result (FailsToAppend [] first mid new)
-      → MatchResult result (λ _. Becomes (first ∷ []) old.contents new.contents) (λ _. Changes (λ _ bytes. IsBlank bytes ⊎ IsJournalOf bytes (first ∷ [])) old.contents new.contents)
-  first_put old mid new (Ok v) made put fails = changes_on (λ _ bytes. IsJournalOf bytes []) (λ _ bytes. IsJournalOf bytes (first ∷ [])) (λ _ bytes. IsJournalOf bytes (first ∷ [])) old.contents mid.contents new.contents (λ a b y j k. k) made put
-  first_put old mid new (Err e) made put fails =
-      changes_on (λ _ bytes. IsJournalOf bytes []) (λ _ bytes. IsLeftAt fails.failed [] first bytes) (λ _ bytes. IsBlank bytes ⊎ IsJournalOf bytes (first ∷ [])) old.contents mid.contents new.contents
-      (λ a b y j left. elim left.either [ inl none ↦ inl (inr none) | inr one ↦ inr one ]) made fails.contents
+  pub first_put : {E : Type 0} (old mid new : Shown) (result : Result (Unit {0}) E) → Becomes [] old.contents mid.contents → OnOk result (Becomes (first ∷ []) mid.contents new.contents) → OnOk result (Becomes (first ∷ []) old.contents new.contents)
+  first_put old mid new (Ok v) made put = changes_on (λ _ bytes. IsJournalOf bytes []) (λ _ bytes. IsJournalOf bytes (first ∷ [])) (λ _ bytes. IsJournalOf bytes (first ∷ [])) old.contents mid.contents new.contents (λ a b y j k. k) made put
+  first_put old mid new (Err e) made put = tt
 
   pub first_text : {E : Type 0} (old mid new : Shown) (result : Result (Unit {0}) E) → Changes SameBehind old.contents mid.contents → OnOk result (Leaves (first ∷ []) mid.contents new.contents) → OnOk result (Leaves (first ∷ []) old.contents new.contents)
   first_text old mid new (Ok v) behind text =
@@ -137,11 +134,63 @@ module _ (first : Framed) where
       (λ a b y same is. is ∙ ap (λ (l : List ℕ). front_text (first ∷ []) ++ closed_gate ∷ l) (same (1 + end_of (first ∷ [])) (omega arith))) behind text
   first_text old mid new (Err e) behind text = tt
 
-  pub still_blank : (old new : Option (List ℕ)) → Changes (λ _ bytes. IsBlank bytes) old new → Changes (λ _ bytes. IsBlank bytes ⊎ IsJournalOf bytes (first ∷ [])) old new
-  still_blank None None c = tt
-  still_blank None (Some b) c = absurd c
-  still_blank (Some a) None c = absurd c
-  still_blank (Some a) (Some b) c = inl c
+  -- a call for the magic failed
+  pub fails_first : (is_short : Bool) (old new : Shown) → Changes (λ _ bytes. IsBlank bytes) old.contents new.contents → is_short ≡ true × ((n : ℕ) × (0 < n) × (n ≤ 2) × MakesCalls n old new) → FailsToCreate (calls_due is_short) first old new
+  fails_first false old new blank calls = absurd (cc)
+  fails_first true old new blank calls =
+      let n = calls.1.0 in
+      let most = calls.1.2 in
+      record {
+        failed = n;
+        some = calls.1.1;
+        within = omega arith;
+        calls = calls.1.3;
+        contents = left old.contents new.contents blank;
+      }
+    where
+      left : (o p : Option (List ℕ)) → Changes (λ _ bytes. IsBlank bytes) o p → Changes (λ _ bytes. IsLeftBefore (6 - calls.1.0) first bytes) o p
+      left None None c = tt
+      left None (Some b) c = absurd c
+      left (Some a) None c = absurd c
+      left (Some a) (Some b) c = record { early = λ _. c; late = λ none. absurd (let most = calls.1.2 in omega arith); either = inl c }
+
+  -- what a `put` left of a blank journal
+  left_before : (due failed : ℕ) (bytes : List ℕ) → failed ≤ 4 → due ≡ 4 → IsLeftAt failed [] first bytes → IsLeftBefore (due - failed) first bytes
+  left_before due failed bytes within four left = record {
+    early = λ two. inr (left.early (omega arith));
+    late = λ none. left.late (omega arith);
+    either = elim left.either [ inl none ↦ inl (inr none) | inr one ↦ inr one ];
+  }
+
+  left_of : (due failed : ℕ) (old mid new : Option (List ℕ)) → failed ≤ 4 → due ≡ 4 → Becomes [] old mid → Changes (λ _ bytes. IsLeftAt failed [] first bytes) mid new → Changes (λ _ bytes. IsLeftBefore (due - failed) first bytes) old new
+  left_of due failed old mid new within four made left =
+      changes_on (λ _ bytes. IsJournalOf bytes []) (λ _ bytes. IsLeftAt failed [] first bytes) (λ _ bytes. IsLeftBefore (due - failed) first bytes) old mid new (λ a b y j k. left_before due failed y within four k) made left
+
+  -- a call for the first frame failed
+  pub fails_next : {E : Type 0} (is_short : Bool) (old mid new : Shown) (result : Result (Unit {0}) E) → Becomes [] old.contents mid.contents → MatchBool is_short (MakesCalls 2 old mid) (MakesCalls 0 old mid) → OnErr result (FailsToAppend [] first mid new)
+      → OnErr result (FailsToCreate (calls_due is_short) first old new)
+  fails_next is_short old mid new (Ok v) made calls fails = tt
+  fails_next true old mid new (Err e) made calls fails =
+      let within = fails.within in
+      let some = fails.some in
+      let more = fails.calls in
+      let unmade : 6 - (fails.failed + 2) ≡ 4 - fails.failed = omega arith in
+      record {
+        failed = fails.failed + 2;
+        some = omega arith;
+        within = omega arith;
+        calls = omega arith;
+        contents = subst (λ (n : ℕ). Changes (λ _ bytes. IsLeftBefore n first bytes) old.contents new.contents) (sym unmade) (left_of 4 fails.failed old.contents mid.contents new.contents fails.within refl made fails.contents);
+      }
+  fails_next false old mid new (Err e) made calls fails =
+      let more = fails.calls in
+      record {
+        failed = fails.failed;
+        some = fails.some;
+        within = fails.within;
+        calls = omega arith;
+        contents = left_of 4 fails.failed old.contents mid.contents new.contents fails.within refl made fails.contents;
+      }
 
 -- the first gate lies in contents with the magic and a closed gate
 pub made_is : (old mid : Option (List ℕ)) → Becomes [] old mid → StandsFor mid []
@@ -151,16 +200,10 @@ made_is (Some a) None made = absurd made
 made_is (Some a) (Some b) made = made
 
 -- the calls for the magic, and those for the first frame
-pub create_calls : {E : Type 0} (is_short : Bool) (old mid new : Shown) (result : Result (Unit {0}) E) → MatchBool is_short (MakesCalls 2 old mid) (MakesCalls 0 old mid) → CountsCalls 4 mid new result → CountsCreateCalls is_short old new result
+pub create_calls : {E : Type 0} (is_short : Bool) (old mid new : Shown) (result : Result (Unit {0}) E) → MatchBool is_short (MakesCalls 2 old mid) (MakesCalls 0 old mid) → CountsCalls 4 mid new result → OnOk result (MakesCalls (calls_due is_short) old new)
+create_calls is_short old mid new (Err e) a b = tt
 create_calls true old mid new (Ok v) a b = omega arith
-create_calls true old mid new (Err e) a b = let some = b.1 in let most = b.2 in let moment = b.3 in (b.0 + 2, omega arith, omega arith, omega arith)
 create_calls false old mid new (Ok v) a b = omega arith
-create_calls false old mid new (Err e) a b = let moment = b.3 in (b.0, b.1, b.2, omega arith)
-
-pub create_fails : {T E : Type 0} (is_short : Bool) (old new : Shown) (result : Result T E) → is_err result ≡ true → is_short ≡ true × ((n : ℕ) × (0 < n) × (n ≤ 2) × MakesCalls n old new) → CountsCreateCalls is_short old new result
-create_fails is_short old new (Ok v) err calls = absurd (cc)
-create_fails true old new (Err e) err calls = let most = calls.1.2 in (calls.1.0, calls.1.1, omega arith, calls.1.3)
-create_fails false old new (Err e) err calls = absurd (cc)
 
 pub blank_calls : {E : Type 0} (is_short : Bool) (at : ℕ) (piece : List ℕ) (old new : Shown) (result : Result (Unit {0}) E) → is_short ≡ true → WritesSurely at piece old new result → CountsBlankCalls is_short old new result
 blank_calls true at piece old new (Ok v) is w = w.0
@@ -175,22 +218,30 @@ by_length is_short None P Q blank calls = tt
 by_length true (Some bytes) P Q blank calls = if_short (nat_le (length bytes) 17) P Q (le-leb (length bytes) 17 blank) calls
 by_length false (Some bytes) P Q blank calls = if_long (nat_le (length bytes) 17) P Q (lt-leb (length bytes) 17 blank.long) calls
 
-pub made_calls : {E : Type 0} (is_short : Bool) (old new : Shown) (result : Result (Unit {0}) E) → is_err result ≡ false → IsBlankBy is_short old → CountsCreateCalls is_short old new result → MakesCreateCalls old new
-made_calls is_short old new (Err e) ok blank calls = absurd (cc)
-made_calls true old new (Ok v) ok blank calls = by_length true old.contents (MakesCalls 6 old new) (MakesCalls 4 old new) blank calls
-made_calls false old new (Ok v) ok blank calls = by_length false old.contents (MakesCalls 6 old new) (MakesCalls 4 old new) blank calls
+pub made_calls : (is_short : Bool) (old new : Shown) → IsBlankBy is_short old → MakesCalls (calls_due is_short) old new → MakesCreateCalls old new
+made_calls true old new blank calls = by_length true old.contents (MakesCalls 6 old new) (MakesCalls 4 old new) blank calls
+made_calls false old new blank calls = by_length false old.contents (MakesCalls 6 old new) (MakesCalls 4 old new) blank calls
+
+pub due_by_length : (is_short : Bool) (s : Shown) → IsBlankBy is_short s → IfSome s.contents (λ bytes. MatchBool (nat_le (length bytes) 17) (calls_due is_short ≡ 6) (calls_due is_short ≡ 4))
+due_by_length true s blank = by_length true s.contents (6 ≡ 6) (6 ≡ 4) blank refl
+due_by_length false s blank = by_length false s.contents (4 ≡ 6) (4 ≡ 4) blank refl
+
+pub due_is : (is_short : Bool) → (calls_due is_short ≡ 4) ⊎ (calls_due is_short ≡ 6)
+due_is true = inr refl
+due_is false = inl refl
 
 -- time goes on
-pub create_later : {T E : Type 0} (is_short : Bool) (old new : Shown) (result : Result T E) → CountsCreateCalls is_short old new result → old.moment ≤ new.moment
-create_later true old new (Ok v) calls = omega arith
-create_later false old new (Ok v) calls = omega arith
-create_later true old new (Err e) calls = let moment = calls.3 in omega arith
-create_later false old new (Err e) calls = let moment = calls.3 in omega arith
+pub calls_later : (n : ℕ) (old new : Shown) → MakesCalls n old new → old.moment ≤ new.moment
+calls_later n old new calls = omega arith
 
 -- what an answer says
 pub of_ok : {T E : Type 0} (result : Result T E) (P : Type 0) (Q : E → Type 0) → is_err result ≡ false → MatchResult result (λ _. P) Q → P
 of_ok (Ok v) P Q ok p = p
 of_ok (Err e) P Q ok p = absurd (cc)
+
+pub of_err : {T E : Type 0} (result : Result T E) (P : T → Type 0) (Q : Type 0) → is_err result ≡ true → MatchResult result P (λ _. Q) → Q
+of_err (Ok v) P Q err q = absurd (cc)
+of_err (Err e) P Q err q = q
 
 -- time goes on
 pub blank_later : (is_short : Bool) (old mid : Shown) → MatchBool is_short (MakesCalls 2 old mid) (MakesCalls 0 old mid) → old.moment ≤ mid.moment

@@ -1,18 +1,16 @@
 -- How contents begin.
-use Rattle.std.proofs.Common.{◌≡◌, ◌≢◌, ◌⊎◌, inl, inr, ℕ, ◌+◌, ◌<◌, ◌≤◌, min, Bool, true, false, List, [], ◌∷◌, ◌++◌, length, take, drop, get_or, Some, None, Option, Err, refl, sym, ap, ◌∙◌, subst, arith, append_assoc, length-append, length-take, take-append-drop}
+use Rattle.std.proofs.Common.{◌≡◌, inl, inr, ℕ, ◌<◌, ◌≤◌, List, [], ◌∷◌, ◌++◌, length, take, drop, get_or, Some, None, Option, Err, refl, sym, ap, ◌∙◌, subst, arith, append_assoc, length-take, take-append-drop}
 use Rattle.std.specs.Prelude.{IfSome}
 use Rattle.std.proofs.lemmas.List.{drop_more, take-take}
 use Rattle.std.proofs.lemmas.Bool.{cases_lt}
-use Rattle.rep_journal.specs.Format.{magic, open_gate, IsJournalOf, IsBlank, HasMagic, IsForeign, IsPresent}
+use Rattle.rep_journal.specs.Format.{magic, open_gate, IsForeign, IsPresent}
 use Rattle.rep_journal.specs.Outcome.{Refuses}
-use Rattle.rep_journal.specs.declared.error.NotMade.{NotMade}
 use Rattle.rep_journal.specs.declared.error.WhyNot.TheVariants.{Present}
 use Rattle.rep_journal.proofs.UniqueLemmas.{same_head, behind_magic}
 use Rattle.rep_journal.specs.Fields.{IsLongBlank}
 use Rattle.rep_journal.specs.Head.{IsOpen, IsHead}
 use Rattle.rep_journal.specs.declared.head.Head.{Head}
 use Rattle.rep_journal.specs.declared.head.Head.TheVariants.{Short, Foreign, Closed, Open}
-use Rattle.rep_journal.proofs.FormatLemmas.{length-magic}
 use Rattle.rep_journal.proofs.KindLemmas.{front_is, journal_magic}
 
 pub magic_is : magic ≡ 82 ∷ 69 ∷ 80 ∷ 45 ∷ 80 ∷ 32 ∷ 74 ∷ 79 ∷ 85 ∷ 82 ∷ 78 ∷ 65 ∷ 76 ∷ 32 ∷ 49 ∷ 10 ∷ []

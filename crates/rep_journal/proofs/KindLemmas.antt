@@ -1,13 +1,13 @@
 -- Contents are of one kind.
-use Rattle.std.proofs.Common.{◌≡◌, ◌≢◌, ◌⊎◌, inl, inr, ℕ, zero, suc, ◌+◌, ◌<◌, ◌≤◌, List, [], ◌∷◌, ◌++◌, length, take, drop, get_or, refl, sym, ap, ◌∙◌, subst, arith, append_assoc, length-append, length-drop, length-take, take-append-drop}
-use Rattle.std.proofs.lemmas.List.{take_at, drop_at, take_all, append-nil, drop_more}
+use Rattle.std.proofs.Common.{◌≡◌, ◌≢◌, ◌⊎◌, inl, inr, ℕ, zero, suc, ◌<◌, ◌≤◌, List, [], ◌∷◌, ◌++◌, length, take, drop, refl, sym, ap, ◌∙◌, subst, arith, append_assoc, length-append, take-append-drop}
+use Rattle.std.proofs.lemmas.List.{take_at, drop_at}
 use Rattle.std.proofs.lemmas.Bool.{cases_eq, cases_lt}
 use Rattle.std.proofs.lemmas.Nat.{from_be_bytes-to_be_bytes_2, from_be_bytes-to_be_bytes_8}
 use Rattle.std.specs.Int.{w16, w64, from_be_bytes}
-use Rattle.rep_journal.specs.Format.{magic, open_gate, Framed, IsFrame, IsLineLength, AreFrames, two_bytes, eight_bytes, frame_text, frames_text, front_text, end_of, IsJournalOf, IsBlank, HasMagic, IsForeign, IsPresent, BrokenAt, Kind, Blank, Foreign, Damaged, Keeps, IsOfKind}
+use Rattle.rep_journal.specs.Format.{magic, open_gate, Framed, IsFrame, IsLineLength, AreFrames, two_bytes, eight_bytes, frame_text, frames_text, front_text, end_of, IsJournalOf, IsBlank, HasMagic, BrokenAt, Kind, Blank, Foreign, Damaged, Keeps, IsOfKind}
 use Rattle.rep_journal.specs.Scan.{HasFrame}
 use Rattle.rep_journal.proofs.FormatLemmas.{length-magic, length-front_text, length-frame_text, length-two_bytes, length-eight_bytes, frame_pieces}
-use Rattle.rep_journal.proofs.UniqueLemmas.{same_frames, not_both, same_broken, behind_magic, same_frame}
+use Rattle.rep_journal.proofs.UniqueLemmas.{same_frames, not_both, same_broken, behind_magic}
 
 pub one_journal : (bytes : List ℕ) (fs gs : List Framed) → IsJournalOf bytes fs → IsJournalOf bytes gs → fs ≡ gs
 one_journal bytes fs gs j k =

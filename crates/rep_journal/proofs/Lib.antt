@@ -1,11 +1,11 @@
 mod BlankLemmas
 mod FormatLemmas
 mod HeadLemmas
-mod KindLemmas
+pub mod KindLemmas
 mod ListLemmas
 mod MomentLemmas
 mod OutcomeLemmas
 mod PutLemmas
 mod ReadLemmas
 mod ScanLemmas
-mod UniqueLemmas
+pub mod UniqueLemmas

@@ -1,8 +1,8 @@
 -- The places of the gates of a list of frames.
-use Rattle.std.proofs.Common.{◌≡◌, ℕ, zero, suc, ◌+◌, ◌*◌, ◌<◌, ◌≤◌, List, [], ◌∷◌, ◌++◌, length, take, get_or, refl, sym, ap, ◌∙◌, arith, length-append}
-use Rattle.rep_journal.specs.Format.{Framed, IsFrame, AreFrames, frame_text, frames_text, end_of, gate_at}
+use Rattle.std.proofs.Common.{◌≡◌, ℕ, zero, suc, ◌+◌, ◌<◌, ◌≤◌, List, [], ◌∷◌, ◌++◌, length, take, get_or, refl, sym, ap, ◌∙◌, arith, length-append}
+use Rattle.rep_journal.specs.Format.{Framed, IsFrame, AreFrames, frame_text, frames_text, end_of}
 use Rattle.rep_journal.specs.Listed.{IsListed, gates_from, most_frames, end_of_journals}
-use Rattle.rep_journal.proofs.FormatLemmas.{longest_front, longest_frame, length-frame_text, end_of-push, are_frames-push}
+use Rattle.rep_journal.proofs.FormatLemmas.{longest_front, length-frame_text, end_of-push, are_frames-push}
 
 pub length-gates_from : (at : ℕ) (fs : List Framed) → length (gates_from at fs) ≡ length fs
 length-gates_from at [] = refl

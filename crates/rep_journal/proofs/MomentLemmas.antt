@@ -1,11 +1,11 @@
 -- The images at each moment of a `put`.
-use Rattle.std.proofs.Common.{◌≡◌, ◌≢◌, ◌⊎◌, inl, inr, ℕ, suc, ◌+◌, ◌*◌, ◌<◌, ◌≤◌, max, min, List, [], ◌∷◌, ◌++◌, length, Some, None, Option, refl, sym, ap, ◌∙◌, subst, arith, length-append}
+use Rattle.std.proofs.Common.{◌≡◌, inl, inr, ℕ, ◌+◌, ◌<◌, ◌≤◌, List, [], ◌∷◌, ◌++◌, length, Some, None, Option, sym, ap, subst, arith, length-append}
 use Rattle.std.specs.Prelude.{IfSome, IsSome}
 use Rattle.std.proofs.lemmas.Bool.{cases_lt}
 use Rattle.rep_disk.specs.Disk.{Shown, Torn, Moves, Moved, KeepsPast, IsAtRest, last_moment}
-use Rattle.rep_journal.specs.Format.{Framed, IsFrame, end_of, IsJournalOf, IsBlank}
-use Rattle.rep_journal.specs.State.{StandsFor, IsWithOrWithout, MakesCalls}
-use Rattle.rep_journal.specs.Recovery.{ImageStandsFor, LeavesAtLeast, NeverFalls, PutMoments, Puts}
+use Rattle.rep_journal.specs.Format.{Framed, end_of, IsJournalOf}
+use Rattle.rep_journal.specs.State.{StandsFor, IsWithOrWithout}
+use Rattle.rep_journal.specs.Recovery.{ImageStandsFor, LeavesAtLeast, NeverFalls, PutMoments}
 use Rattle.rep_journal.proofs.KindLemmas.{one_journal, kept_not_blank}
 use Rattle.rep_journal.proofs.PutLemmas.{IsStaged, torn_behind, torn_gate}
 

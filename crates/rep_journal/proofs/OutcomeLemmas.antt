@@ -1,12 +1,10 @@
 -- From what was found to what `reopen` answers.
-use Rattle.std.proofs.Common.{◌≡◌, ◌≢◌, ◌⊎◌, inl, inr, ℕ, List, [], Some, None, Option, Ok, Err, Result, refl, sym, ap, ◌∙◌, subst}
-use Rattle.std.specs.Prelude.{IfSome}
+use Rattle.std.proofs.Common.{◌≡◌, inl, inr, ℕ, List, Some, None, Option, Ok, Err, refl, ap, subst}
 use Rattle.rep_journal.specs.Format.{Framed, IsBlank, BrokenAt, IsOfKind, Kind}
 use Rattle.rep_journal.specs.Format as format
 use Rattle.rep_journal.specs.Listed.{Listed}
-use Rattle.rep_journal.specs.Finding.{Finds, IsCause}
+use Rattle.rep_journal.specs.Finding.{Finds}
 use Rattle.rep_journal.specs.Outcome.{Refuses}
-use Rattle.rep_journal.specs.declared.error.NotMade.{NotMade}
 use Rattle.rep_journal.specs.declared.error.WhyNot.{WhyNot}
 use Rattle.rep_journal.specs.declared.error.WhyNot.TheVariants.{Foreign, Present, Blank, Damaged, DeviceFault, OutOfMemory}
 use Rattle.rep_journal.proofs.KindLemmas.{kept_not_blank, kept_not_broken, one_broken, one_kind}

@@ -1,8 +1,8 @@
 -- What the two writes of a `put` make of contents and images.
-use Rattle.std.proofs.Common.{◌≡◌, ◌≢◌, ◌⊎◌, inl, inr, ℕ, suc, ◌+◌, ◌<◌, ◌≤◌, max, min, List, [], ◌∷◌, ◌++◌, length, take, drop, get_or, Some, None, Option, Ok, Err, Result, true, ◌*◌, refl, sym, ap, ◌∙◌, subst, arith, append_assoc, length-append, length-drop, length-take, take-append-drop}
-use Rattle.std.specs.Prelude.{IfSome, IsSome, MatchResult, OnErr, OnOk, is_err}
-use Rattle.std.proofs.lemmas.List.{take_at, drop_at, take_all, append-nil, drop_more}
-use Rattle.std.proofs.lemmas.Bool.{cases_eq, cases_lt}
+use Rattle.std.proofs.Common.{◌≡◌, ◌≢◌, inl, inr, ℕ, ◌+◌, ◌<◌, ◌≤◌, List, [], ◌∷◌, ◌++◌, length, take, drop, get_or, Some, None, Option, Ok, Err, Result, true, ◌*◌, refl, sym, ap, ◌∙◌, arith, append_assoc, length-append, take-append-drop}
+use Rattle.std.specs.Prelude.{IfSome, IsSome, OnErr, OnOk, is_err}
+use Rattle.std.proofs.lemmas.List.{take_at, drop_at, drop_more}
+use Rattle.std.proofs.lemmas.Bool.{cases_eq}
 use Rattle.rep_disk.specs.Disk.{Shown, Torn, Written, Changes, IsWithin}
 use Rattle.rep_journal.specs.Format.{open_gate, closed_gate, Framed, IsFrame, AreFrames, frame_text, front_text, end_of, IsJournalOf}
 use Rattle.rep_journal.specs.State.{StandsFor, Becomes, Leaves, IsWithOrWithout, IsLeftAt, FailsToAppend, MakesCalls, CountsCalls}
@@ -140,10 +140,6 @@ changes_both P step next other (Some a) (Some b) None p f c d = absurd d
 changes_both P step next other (Some a) (Some b) (Some y) p f c d = f a b y p c d
 
 -- What the calls answer.
-
-pub err_match : {T E : Type 0} (result : Result T E) (P : T → Type 0) (Q : Type 0) → is_err result ≡ true → Q → MatchResult result P (λ _. Q)
-err_match (Ok v) P Q is q = absurd (cc)
-err_match (Err e) P Q is q = q
 
 pub ok_none : {T E : Type 0} (result : Result T E) (P : Type 0) → is_err result ≡ true → OnOk result P
 ok_none (Ok v) P is = absurd (cc)

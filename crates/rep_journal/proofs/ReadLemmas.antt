@@ -1,12 +1,13 @@
 -- Reading on, piece by piece.
-use Rattle.std.proofs.Common.{◌≡◌, ◌≢◌, ◌⊎◌, inl, inr, ℕ, ◌+◌, ◌*◌, ◌<◌, ◌≤◌, List, [], ◌∷◌, ◌++◌, length, Some, None, Option, Ok, Err, Result, refl, sym, ap, ◌∙◌, subst, arith}
-use Rattle.std.specs.Prelude.{IfErr, IfOk, IfSome, ◌↔◌}
+use Rattle.std.proofs.Common.{◌≡◌, inl, inr, ℕ, ◌+◌, ◌≤◌, List, [], ◌∷◌, ◌++◌, length, Some, None, Option, Ok, Err, Result, refl, sym, ap, ◌∙◌, subst, arith}
+use Rattle.std.specs.Prelude.{IfErr, IfOk, IfSome, MatchResult, ◌↔◌}
 use Rattle.std.proofs.lemmas.List.{append-nil}
 use Rattle.std.proofs.lemmas.Bool.{cases_lt}
-use Rattle.rep_disk.specs.Disk.{Shown, IsAtRest, IsOwnImage, Moves, Same, Stays, last_moment}
-use Rattle.rep_journal.specs.Format.{magic, open_gate, Framed, IsJournalOf, IsOfKind, Keeps, end_of}
-use Rattle.rep_journal.specs.State.{IsKeptBy, IsRead, MakesCalls}
+use Rattle.rep_disk.specs.Disk.{Shown, IsAtRest, Stays}
+use Rattle.rep_journal.specs.Format.{magic, open_gate, Framed, IsJournalOf, end_of}
+use Rattle.rep_journal.specs.State.{IsRead, MakesCalls}
 use Rattle.rep_journal.specs.Recovery.{RestsFrom}
+use Rattle.rep_journal.specs.Outcome.{RestsUnlessFailed}
 use Rattle.rep_journal.specs.Listed.{Listed}
 use Rattle.rep_journal.specs.Head.{IsOpen}
 use Rattle.rep_journal.specs.Scan.{IsScanned, EndsBroken, IsScannedTo}
@@ -100,45 +101,6 @@ pub record IsReading (old now : Shown) (frames : List Framed) : Type 0 where
 
 -- After the sync that comes first.
 module _ (old mid new : Shown) (one : MakesCalls 1 old mid) (read : IsRead mid new) where
-  later_than : old.moment ≤ new.moment
-  later_than = let le = read.later in omega arith
-
-  kept_images : Moves Same old mid → Moves Same old new
-  kept_images moves before =
-      let le = read.later in
-      let a = moves (omega arith) in
-      let b = read.crash before in
-      let start : (image : List ℕ) → mid.may_leave mid.moment image → old.may_leave old.moment image = λ image leaves.
-      let was = a.images mid.moment image (omega arith) (omega arith) leaves in
-      subst (old.may_leave old.moment) (sym was.2) was.1 in
-      record {
-        past = λ m image at. both_ways (b.past m image (omega arith)) (a.past m image at);
-        images = λ m image after to leaves. elim (cases_lt mid.moment m) [
-          | inl behind ↦ (image, start image ((b.images m image behind to).0 leaves), refl)
-          | inr ahead ↦ a.images m image after ahead ((b.past m image ahead).0 leaves)
-        ];
-        settles = λ m later image after le_later to leaves. elim (cases_lt mid.moment later) [
-          | inr early ↦ (b.past m image (omega arith)).1 (a.settles m later image after le_later early ((b.past later image early).0 leaves))
-          | inl late ↦
-              let at_mid = (b.images later image late to).0 leaves in
-              elim (cases_lt mid.moment m) [
-                | inl behind ↦ (b.images m image behind (omega arith)).1 at_mid
-                | inr ahead ↦ (b.past m image ahead).1 (a.settles m mid.moment image after ahead (omega arith) at_mid)
-              ]
-        ];
-      }
-
-  pub kept_by : mid.contents ≡ old.contents → Moves Same old mid → IsOwnImage old ↔ IsOwnImage mid → old.faults ≤ mid.faults → IsKeptBy old new
-  kept_by same moves own faults =
-      let more = read.faults in
-      record {
-        contents = read.contents ∙ same;
-        later = later_than;
-        crash = kept_images moves;
-        own = both_ways own read.own;
-        faults = omega arith;
-      }
-
   pub rests : IsAtRest mid → RestsFrom (old.moment + 2) new
   rests rest before =
       let le = read.later in
@@ -153,3 +115,8 @@ module _ (old mid new : Shown) (one : MakesCalls 1 old mid) (read : IsRead mid n
               told image (subst (λ (n : ℕ). mid.may_leave n image) here ((b.past m image ahead).0 leaves))
         ],
       )
+
+  -- whatever the search answers after that sync
+  pub rests_whatever : {T : Type 0} (result : Result T WhyNot) → IsAtRest mid → MatchResult result (λ _. RestsFrom (old.moment + 2) new) (λ why. RestsUnlessFailed why old new)
+  rests_whatever (Ok found) rest = rests rest
+  rests_whatever (Err why) rest = inr (rests rest)

@@ -1,9 +1,9 @@
 -- What stands at the front of bytes.
-use Rattle.std.proofs.Common.{◌≡◌, ◌≢◌, ◌⊎◌, inl, inr, ℕ, suc, ◌+◌, ◌-◌, ◌*◌, ◌<◌, ◌≤◌, ◌^◌, min, Bool, true, false, List, [], ◌∷◌, ◌++◌, length, take, drop, get_or, Some, None, Option, refl, sym, ap, ◌∙◌, subst, arith, append_assoc, length-append, length-take, length-drop, take-append-drop}
+use Rattle.std.proofs.Common.{◌≡◌, ℕ, ◌+◌, ◌<◌, ◌≤◌, Bool, true, false, List, [], ◌∷◌, ◌++◌, length, take, drop, get_or, Some, None, Option, refl, sym, ap, ◌∙◌, subst, arith, append_assoc, length-append, length-take, length-drop, take-append-drop}
 use Rattle.std.specs.Prelude.{IfSome, IsSome, nat_lt, ◌↔◌}
 use Rattle.std.proofs.lemmas.Bool.{ltb-true}
 use Rattle.std.proofs.lemmas.List.{append-nil, take_at, take-append-le, drop_at, drop_all, drop-drop, drop_more, length-take-le}
-use Rattle.rep_journal.specs.Format.{magic, open_gate, Framed, IsFrame, IsJournalOf, IsLineLength, AreFrames, two_bytes, eight_bytes, frame_text, frames_text, front_text, end_of}
+use Rattle.rep_journal.specs.Format.{magic, open_gate, Framed, IsLineLength, AreFrames, two_bytes, eight_bytes, frame_text, frames_text, front_text, end_of}
 use Rattle.rep_journal.specs.Scan.{HasFrame, ReadsFrame, TakesTo, TakesFrames, IsScanned, EndsBroken, IsScannedTo}
 use Rattle.rep_journal.specs.declared.stop.Stop.{Stop}
 use Rattle.rep_journal.specs.declared.stop.Stop.TheVariants.{Closed, Broken, Cut}

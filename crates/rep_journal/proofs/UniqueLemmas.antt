@@ -1,9 +1,9 @@
 -- A text of frames is that of one list of frames.
-use Rattle.std.proofs.Common.{◌≡◌, ◌≢◌, ◌⊎◌, inl, inr, ℕ, suc, ◌+◌, ◌<◌, ◌≤◌, ◌^◌, List, [], ◌∷◌, ◌++◌, length, take, drop, refl, sym, ap, ◌∙◌, subst, arith, append_assoc, length-append}
+use Rattle.std.proofs.Common.{◌≡◌, ◌≢◌, ℕ, ◌<◌, ◌^◌, List, [], ◌∷◌, ◌++◌, length, refl, sym, ◌∙◌, arith, append_assoc}
 use Rattle.std.proofs.lemmas.List.{append_cancel_left}
-use Rattle.rep_journal.specs.Format.{magic, open_gate, Framed, IsFrame, IsLineLength, AreFrames, two_bytes, eight_bytes, frame_text, frames_text, front_text, end_of, IsJournalOf, BrokenAt}
-use Rattle.rep_journal.specs.Scan.{HasFrame, ReadsFrame}
-use Rattle.rep_journal.proofs.FormatLemmas.{length-magic, length-two_bytes, length-eight_bytes, same_two_bytes, same_eight_bytes, frame_pieces, length-frame_text}
+use Rattle.rep_journal.specs.Format.{magic, open_gate, Framed, IsFrame, IsLineLength, AreFrames, two_bytes, eight_bytes, frame_text, frames_text, front_text}
+use Rattle.rep_journal.specs.Scan.{HasFrame}
+use Rattle.rep_journal.proofs.FormatLemmas.{length-two_bytes, length-eight_bytes, same_two_bytes, same_eight_bytes, frame_pieces}
 
 -- fronts of one length are the same, and so is what stands behind them
 pub same_split : {A : Type 0} (p q a b : List A) → length p ≡ length q → p ++ a ≡ q ++ b → (p ≡ q) × (a ≡ b)

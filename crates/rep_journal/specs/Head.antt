@@ -1,5 +1,5 @@
 -- How contents begin: this project's own.
-use Rattle.std.specs.Prelude.{◌≡◌, ◌≢◌, ℕ, ◌<◌, ◌≤◌, List, [], ◌∷◌, ◌++◌, length, take}
+use Rattle.std.specs.Prelude.{◌≡◌, ℕ, ◌<◌, ◌≤◌, List, ◌∷◌, ◌++◌, length}
 use Rattle.rep_journal.specs.Format.{IsForeign, magic, open_gate}
 use Rattle.rep_journal.specs.Fields.{IsLongBlank}
 use Rattle.rep_journal.specs.declared.head.Head.{Head}

@@ -1,5 +1,5 @@
 -- When a call over a disk makes no journal: this project's own.
-use Rattle.std.specs.Prelude.{◌≡◌, ◌⊎◌, ℕ, ◌+◌, List, IfSome, IsErrAnd, MatchResult, Option, Result}
+use Rattle.std.specs.Prelude.{◌≡◌, ◌⊎◌, ℕ, ◌+◌, List, IfSome, IsErrAnd, Option, Result}
 use Rattle.rep_disk.specs.Disk.{Shown}
 use Rattle.rep_journal.specs.State.{MakesCalls}
 use Rattle.rep_journal.specs.Recovery.{RestsFrom}

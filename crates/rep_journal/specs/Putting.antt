@@ -1,7 +1,7 @@
 -- What the parts of a `put` and of `create` do: this project's own.
-use Rattle.std.specs.Prelude.{◌≡◌, ◌⊎◌, ℕ, ◌<◌, ◌≤◌, Bool, IsTrue, List, length, drop, MatchBool, MatchResult, Option, Result}
+use Rattle.std.specs.Prelude.{◌≡◌, ◌⊎◌, ℕ, ◌<◌, ◌≤◌, Bool, true, false, IsTrue, List, length, drop, MatchBool, MatchResult, Result}
 use Rattle.rep_disk.specs.Disk.{Shown, Changes, Torn, Written}
-use Rattle.rep_journal.specs.State.{CountsCalls, MakesCalls}
+use Rattle.rep_journal.specs.State.{MakesCalls}
 
 -- the write of a piece failed, which leaves it torn, or its sync failed, which leaves it written
 abbrev pub FailsToWrite : ℕ → List ℕ → Shown → Shown → Type 0
@@ -20,9 +20,10 @@ CountsBlankCalls is_short old new result =
     MatchResult result (λ _. MatchBool is_short (MakesCalls 2 old new) (MakesCalls 0 old new))
     (λ _. IsTrue is_short × ((n : ℕ) × (0 < n) × (n ≤ 2) × MakesCalls n old new))
 
--- the calls for the magic and the first frame, or for the first frame alone
-abbrev pub CountsCreateCalls : {T E : Type 0} → Bool → Shown → Shown → Result T E → Type 0
-CountsCreateCalls is_short old new result = MatchBool is_short (CountsCalls 6 old new result) (CountsCalls 4 old new result)
+-- how many calls are due for the magic and the first frame, or for the first frame alone
+abbrev pub calls_due : Bool → ℕ
+calls_due true = 6
+calls_due false = 4
 
 -- what lies behind the magic and its gate is as it was
 abbrev pub SameBehind : List ℕ → List ℕ → Type 0

@@ -1,5 +1,5 @@
 -- What a pass over a piece of contents finds: this project's own.
-use Rattle.std.specs.Prelude.{◌≡◌, ◌≢◌, ℕ, ◌<◌, ◌≤◌, Bool, true, false, List, [], ◌∷◌, ◌++◌, length, Option, Some, None}
+use Rattle.std.specs.Prelude.{◌≡◌, ◌≢◌, ℕ, ◌<◌, ◌≤◌, Bool, false, List, ◌∷◌, ◌++◌, length, Option, Some, None}
 use Rattle.rep_journal.specs.Format.{Framed, IsFrame, IsJournalOf, AreFrames, frame_text, frames_text, front_text, open_gate}
 use Rattle.rep_journal.specs.declared.stop.Stop.{Stop}
 use Rattle.rep_journal.specs.declared.stop.Stop.TheVariants.{Closed, Broken, Cut}

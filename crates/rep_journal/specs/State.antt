@@ -1,5 +1,5 @@
 -- What a journal is, as contracts see it, and what its calls do to it: this project's own.
-use Rattle.std.specs.Prelude.{◌≡◌, ◌⊎◌, ◌↔◌, Bool, if◌then◌else◌, ℕ, ◌+◌, ◌*◌, ◌<◌, ◌≤◌, List, [], ◌∷◌, ◌++◌, length, drop, nat_le, IfSome, MatchBool, MatchResult, Option, Result}
+use Rattle.std.specs.Prelude.{◌≡◌, ◌⊎◌, ◌↔◌, Bool, if◌then◌else◌, ℕ, ◌+◌, ◌-◌, ◌*◌, ◌<◌, ◌≤◌, List, [], ◌∷◌, ◌++◌, length, drop, nat_le, IfSome, MatchBool, MatchResult, Option, Result}
 use Rattle.rep_io.specs.Causes.{Rose}
 use Rattle.rep_disk.specs.Disk.{Shown, AdvancesBy, Changes, IsAtRest, IsOwnImage, Moves, Same, Stays}
 use Rattle.rep_disk.specs.Memory.{counted}
@@ -110,11 +110,28 @@ pub record Begins {D : Type 0} (shown : D → Shown) (first : Framed) (old : D) 
   pub own : IsOwnImage (shown old) ↔ IsOwnImage (shown new.disk)
   pub disk_faults : (shown old).faults ≤ (shown new.disk).faults
 
--- a device call of `create` failed: the contents are still blank, or have the first frame
+-- What is left where a device call of `create` failed, and so many that were still due were not made: blank contents
+-- while the gate isn't written, and the first frame where only the last sync failed.
+pub record IsLeftBefore (unmade : ℕ) (first : Framed) (bytes : List ℕ) : Type 0 where
+  pub early : 2 ≤ unmade → IsBlank bytes
+  pub late : unmade ≡ 0 → IsJournalOf bytes (first ∷ [])
+  pub either : IsBlank bytes ⊎ IsJournalOf bytes (first ∷ [])
+
+-- the call of this number failed, and was the last
+pub record FailsToCreate (due : ℕ) (first : Framed) (old new : Shown) : Type 0 where
+  pub failed : ℕ
+  pub some : 0 < failed
+  pub within : failed ≤ due
+  pub calls : MakesCalls failed old new
+  pub contents : Changes (λ _ bytes. IsLeftBefore (due - failed) first bytes) old.contents new.contents
+
+-- A device call of `create` failed: of six where the contents, if they are told, have at most 17 bytes, else of four.
 pub record FailsToBegin (first : Framed) (old new : Shown) : Type 0 where
   pub cause : Rose old.faults new.faults
-  pub contents : Changes (λ _ bytes. IsBlank bytes ⊎ IsJournalOf bytes (first ∷ [])) old.contents new.contents
-  pub calls : (n : ℕ) × (0 < n) × (n ≤ 6) × MakesCalls n old new
+  pub due : ℕ
+  pub all : (due ≡ 4) ⊎ (due ≡ 6)
+  pub by_length : IfSome old.contents (λ bytes. MatchBool (nat_le (length bytes) 17) (due ≡ 6) (due ≡ 4))
+  pub fails : FailsToCreate due first old new
   pub own : IsOwnImage old ↔ IsOwnImage new
 
 -- a device call of a `put` failed: the contents have the frames from before, with the new one or without it

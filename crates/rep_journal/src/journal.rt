@@ -256,6 +256,13 @@ impl<D: Disk> Journal<D> {
         })
     }
 
+    /// The disk as it stands.
+    pub fn disk(&self) -> &D
+        ensures { result.now ≡ self.now.disk }
+    {
+        &self.disk
+    }
+
     /// The disk.
     pub fn into_disk(self) -> D
         ensures disk { result ≡ self.disk }

@@ -1,12 +1,12 @@
 //! What `create` and `put` write.
-ghost use Rattle.std.specs.Prelude.{◌≡◌, ◌↔◌, ◌⊎◌, ◌+◌, ◌≤◌, List, [], ◌∷◌, ◌++◌, length, OnErr, OnOk, MatchResult};
+ghost use Rattle.std.specs.Prelude.{◌≡◌, ◌↔◌, ◌+◌, ◌≤◌, List, [], ◌∷◌, ◌++◌, length, OnErr, OnOk, MatchResult};
 ghost use Rattle.rep_io.specs.Causes.{HasCause};
 ghost use Rattle.rep_disk.specs.Disk.{Changes, IsAtRest, IsOwnImage, IsWithin, Moves, Torn, end_of_disk};
-ghost use Rattle.rep_journal.specs.Format.{Framed, IsBlank, IsJournalOf, end_of};
-ghost use Rattle.rep_journal.specs.State.{Becomes, CountsCalls, FailsToAppend, Leaves, StandsFor};
+ghost use Rattle.rep_journal.specs.Format.{Framed, IsBlank, end_of};
+ghost use Rattle.rep_journal.specs.State.{Becomes, CountsCalls, FailsToAppend, FailsToCreate, Leaves, MakesCalls, StandsFor};
 ghost use Rattle.rep_journal.specs.Recovery.{Blanks, Creates, Puts};
 ghost use Rattle.rep_journal.specs.Fields.{IsBlankBy, room_of_frame};
-ghost use Rattle.rep_journal.specs.Putting.{CountsBlankCalls, CountsCreateCalls, SameBehind, WritesSurely};
+ghost use Rattle.rep_journal.specs.Putting.{CountsBlankCalls, calls_due, SameBehind, WritesSurely};
 
 use crate::bytes::Stage;
 use crate::format::{BLANK, FIRST_GATE, OPEN_GATE};
@@ -81,12 +81,11 @@ fn write_blank<D: Disk>(disk: &mut D, is_short: bool) -> Result<(), Failed>
 pub(crate) fn begin<D: Disk>(disk: &mut D, is_short: bool, first: &Frame) -> Result<(), Failed>
     requires blank { IsBlankBy is_short (D.shown disk.old) }
     requires room { 17 + room_of_frame ≤ (D.shown disk.old).spare }
-    ensures contents { MatchResult result
-        (λ _. Becomes (first.now ∷ []) (D.shown disk.old).contents (D.shown disk.new).contents)
-        (λ _. Changes (λ _ bytes. IsBlank bytes ⊎ IsJournalOf bytes (first.now ∷ [])) (D.shown disk.old).contents (D.shown disk.new).contents) }
+    ensures contents { OnOk result (Becomes (first.now ∷ []) (D.shown disk.old).contents (D.shown disk.new).contents) }
     ensures text { OnOk result (Leaves (first.now ∷ []) (D.shown disk.old).contents (D.shown disk.new).contents) }
     ensures rest { OnOk result (IsAtRest (D.shown disk.new)) }
-    ensures calls { CountsCreateCalls is_short (D.shown disk.old) (D.shown disk.new) result }
+    ensures calls { OnOk result (MakesCalls (calls_due is_short) (D.shown disk.old) (D.shown disk.new)) }
+    ensures fails { OnErr result (FailsToCreate (calls_due is_short) first.now (D.shown disk.old) (D.shown disk.new)) }
     ensures crash { Creates first.now (D.shown disk.old) (D.shown disk.new) }
     ensures own { IsOwnImage (D.shown disk.old) ↔ IsOwnImage (D.shown disk.new) }
     ensures cause { HasCause (D.shown disk.old).faults (D.shown disk.new).faults result }

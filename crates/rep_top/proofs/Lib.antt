@@ -1,12 +1,3 @@
-pub mod Decimals
-pub mod PrintWords
-pub mod ReadingLemmas
-pub mod LineSteps
-pub mod LaneLemmas
-pub mod FileLemmas
-pub mod SummaryLemmas
-pub mod EmployerLemmas
-pub mod FinishLemmas
-pub mod HeadLines
-pub mod RunLemmas
-mod Complete
+mod Moved
+mod Rising
+mod Statuses

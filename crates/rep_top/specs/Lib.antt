@@ -1,14 +1,2 @@
-pub mod Words
-pub mod Output
-pub mod Ending
-pub mod LaneText
-pub mod Lane
-pub mod Printing
-pub mod Rigged
-pub mod Writing
-pub mod Steps
-pub mod FileSteps
-pub mod RunSteps
-pub mod FinishSteps
-pub mod HeadSteps
 pub mod Program
+pub mod Commands

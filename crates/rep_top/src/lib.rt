@@ -1,27 +1,14 @@
-//! What the program does: the words of its command line, and each command over the sources, sinks and the clock that
-//! are handed in. The program's `main` makes the real ones and calls `top`.
+//! The program as one call: what its words ask for, done over the sources, the sinks, the disk and the clock that are handed in.
+//! The program's `main` makes the real ones and calls `top`.
 #![tactic(auto)]
 
-mod ending;
-mod file;
-mod finish;
-mod lane;
-mod lane_head;
-mod lines;
-mod output;
-mod print;
+mod creating;
+mod printing;
 mod program;
-mod reading;
-mod recording;
-mod rig;
+mod running;
 #[cfg(test)]
 mod tests;
-#[cfg(test)]
-mod tests_faults;
-#[cfg(test)]
-mod tests_refused;
-mod words;
+mod wrong_words;
 
 pub use program::top;
-pub use rig::{Outcome, Rig};
-pub use words::{Command, Errand, WordsFault, plan_words};
+pub use rep_words::{Asked, Command, Errand, Outcome, Rig, WordsFault, asked_of, plan_words};

@@ -1,156 +1,71 @@
-ghost use Rattle.std.specs.Prelude.{◌≡◌, ◌⊎◌, ℤ, ℕ, List, [], Some, map, string_bytes};
-ghost use Rattle.rep_io.specs.Causes.{Rose};
-ghost use Rattle.rep_fields.specs.Moment.{IsOffset};
-ghost use Rattle.afd_records.specs.Record.{last_nsr};
-ghost use Rattle.rep_core.specs.Core.{Stands};
-ghost use Rattle.rep_top.specs.Words.{IsPrint, IsOnGrammar};
-ghost use Rattle.rep_top.specs.Printing.{IsAcceptable};
-ghost use Rattle.rep_top.specs.Rigged.{Rigged, Printed};
-ghost use Rattle.rep_top.specs.Output.{fault_text};
-ghost use Rattle.rep_top.specs.FinishSteps.{SaysLine};
-ghost use Rattle.rep_top.specs.Program.{Refuses};
+ghost use Rattle.std.specs.Prelude.{◌≡◌, ◌≢◌, ◌⊎◌, ℤ, map, string_bytes};
+ghost use Rattle.rep_words.specs.Words.{Asks, IsCreate, IsOnGrammar, IsPrint, IsRun};
+ghost use Rattle.rep_top.specs.Program.{ClockFailed, DiskFailed, IsRiggedFor, NothingFailed, Refuses, SinkFailed, SourceFailed, sense_of};
+ghost use Rattle.rep_top.specs.Commands.{CanCreate, CanPrint, CanRun, CreatesOver, CreatesSafely, LeavesFile, PrintsOver, RunsOver};
 
-use crate::output::fault_line;
-use crate::print::run_print;
-use crate::reading::lines_of;
-use crate::recording::Book;
-use crate::rig::{Outcome, Rig};
-use crate::words::print_zone;
-use rep_core::Core;
-use rep_io::{Clock, Sink, Source, put_all};
+use crate::creating::create_over;
+use crate::printing::print_over;
+use crate::running::run_over;
+use crate::wrong_words::refuse;
+use rep_disk::Disk;
+use rep_io::{Clock, Sink, Source};
+use rep_words::{Asked, Outcome, Rig, asked_of};
 use std::alloc::Global;
 
-/// How many numbers a recorder gives out at most.
-const LAST_NSR: u32 = 999_999_999;
-
-/// The status where the words are those of no command.
-const WRONG_WORDS: u8 = 2;
-
-/// Does what the words ask for, over the rig, and answers the status that the program ends with.
-pub fn top<S: Source, K: Sink, C: Clock>(
+/// Does what the words ask for, over the rig, and answers the status that the program ends with. The rig has just the texts,
+/// files, disk and clock that the command works on.
+pub fn top<S: Source, K: Sink, D: Disk, C: Clock>(
     alloc: Global,
     words: &[String],
-    rig: Rig<S, K, C>,
-) -> Outcome<S, K, C>
-    requires rigged { IsOnGrammar (map string_bytes words.now) → Rigged rig.texts.items rig.outs.items rig.clock }
+    rig: Rig<S, K, D, C>,
+) -> Outcome<S, K, D, C>
+    requires rigged { (asked : Asked) → Asks (map string_bytes words.now) asked → IsRiggedFor asked rig }
+    ensures rigged { (asked : Asked) → Asks (map string_bytes words.now) asked → IsRiggedFor asked result.rig }
 
     // Words that are those of no command are told, and nothing else is touched.
-    ensures off_grammar { (IsOnGrammar (map string_bytes words.now) → ⊥) → result.status ≡ 2 }
-    ensures only_off_grammar { result.status ≡ 2 → IsOnGrammar (map string_bytes words.now) → ⊥ }
-    ensures untouched { (IsOnGrammar (map string_bytes words.now) → ⊥)
-        → Refuses rig.texts.items result.rig.texts.items rig.outs.items result.rig.outs.items rig.clock result.rig.clock
-        (K.written rig.out) (K.written result.rig.out) (Rose (K.faults rig.out) (K.faults result.rig.out)) }
+    ensures off_grammar { ¬ IsOnGrammar (map string_bytes words.now) → result.status ≡ 2 }
+    ensures only_off_grammar { result.status ≡ 2 → ¬ IsOnGrammar (map string_bytes words.now) }
+    ensures untouched { ¬ IsOnGrammar (map string_bytes words.now) → Refuses (sense_of S.left S.faults K.written K.faults D.shown C.readings C.faults) rig result.rig }
 
-    // `print`: the AFD, the replies and the readings of the clock are those of the lane's lines, recorded one after
-    // another, however it ends; and each fault of the outside is told only where it came.
-    ensures printed { (zone : ℤ) → IsPrint (map string_bytes words.now) zone
-        → (before : Rigged rig.texts.items rig.outs.items rig.clock)
-        → (after : Rigged result.rig.texts.items result.rig.outs.items result.rig.clock)
-        → Printed S.left K.written C.readings K.faults zone result.status
-        before.source before.file rig.out before.watch after.file result.rig.out after.watch }
-    ensures rigged { IsOnGrammar (map string_bytes words.now)
-        → Rigged result.rig.texts.items result.rig.outs.items result.rig.clock }
-    // Where no AFD is written, its file isn't opened.
-    ensures unopened { (result.status ≡ 0 → ⊥) → (result.status ≡ 5 → ⊥)
-        → (before : Rigged rig.texts.items rig.outs.items rig.clock)
-        → (after : Rigged result.rig.texts.items result.rig.outs.items result.rig.clock)
-        → after.file ≡ before.file }
-    // Where nothing is refused and nothing of the outside fails, the AFD is made, unless memory is short.
-    ensures complete { (zone : ℤ) (text : List ℕ) → IsPrint (map string_bytes words.now) zone
-        → (before : Rigged rig.texts.items rig.outs.items rig.clock)
-        → (after : Rigged result.rig.texts.items result.rig.outs.items result.rig.clock)
-        → S.left before.source ≡ Some text → IsAcceptable zone text
-        → ¬ Rose (S.faults before.source) (S.faults after.source) → ¬ Rose (C.faults before.watch) (C.faults after.watch)
-        → ¬ Rose (K.faults before.file) (K.faults after.file) → ¬ Rose (K.faults rig.out) (K.faults result.rig.out)
+    // `print`: the AFD, the replies and the readings of the clock are those of the lane's lines, served one after another over
+    // an empty history, however it ends. Where no AFD is written, its file isn't opened.
+    ensures printed { (zone : ℤ) → IsPrint (map string_bytes words.now) zone → PrintsOver zone (sense_of S.left S.faults K.written K.faults D.shown C.readings C.faults) rig result.rig result.status }
+    ensures unopened { (zone : ℤ) → IsPrint (map string_bytes words.now) zone
+        → result.status ≢ 0 → result.status ≢ 1 → result.status ≢ 5 → LeavesFile rig result.rig }
+
+    // `create`: the disk keeps the site's employer record alone, recorded at a reading of the clock, or the call stopped
+    // before. A crash in the call leaves a blank disk, or one that keeps that record.
+    ensures created { IsCreate (map string_bytes words.now) → CreatesOver (sense_of S.left S.faults K.written K.faults D.shown C.readings C.faults) rig result.rig result.status }
+    ensures safe { IsCreate (map string_bytes words.now) → CreatesSafely (sense_of S.left S.faults K.written K.faults D.shown C.readings C.faults) rig result.rig }
+
+    // `run`: the lines of the lane were served one after another over the history that the disk kept, which goes on by their
+    // entries, however the lane ends; and a crash in the call leaves a front of it that has each entry with a receipt.
+    ensures ran { IsRun (map string_bytes words.now) → RunsOver (sense_of S.left S.faults K.written K.faults D.shown C.readings C.faults) rig result.rig result.status }
+
+    // A fault of the outside is told only where that object's count rose in this call.
+    ensures source_fault { result.status ≡ 4 → SourceFailed (sense_of S.left S.faults K.written K.faults D.shown C.readings C.faults) rig result.rig }
+    ensures sink_fault { result.status ≡ 5 → SinkFailed (sense_of S.left S.faults K.written K.faults D.shown C.readings C.faults) rig result.rig }
+    ensures device_fault { result.status ≡ 6 → DiskFailed (sense_of S.left S.faults K.written K.faults D.shown C.readings C.faults) rig result.rig }
+    ensures clock_fault { result.status ≡ 7 → ClockFailed (sense_of S.left S.faults K.written K.faults D.shown C.readings C.faults) rig result.rig }
+
+    // Where nothing is refused as a whole and nothing of the outside fails, all is done, unless memory is short.
+    ensures prints_all { (zone : ℤ) → IsPrint (map string_bytes words.now) zone
+        → CanPrint (sense_of S.left S.faults K.written K.faults D.shown C.readings C.faults) rig
+        → NothingFailed (sense_of S.left S.faults K.written K.faults D.shown C.readings C.faults) rig result.rig
+        → (result.status ≡ 0) ⊎ (result.status ≡ 1) ⊎ (result.status ≡ 8) }
+    ensures creates_all { IsCreate (map string_bytes words.now)
+        → CanCreate (sense_of S.left S.faults K.written K.faults D.shown C.readings C.faults) rig
+        → NothingFailed (sense_of S.left S.faults K.written K.faults D.shown C.readings C.faults) rig result.rig
         → (result.status ≡ 0) ⊎ (result.status ≡ 8) }
-    ensures source_fault { result.status ≡ 4 → (before : Rigged rig.texts.items rig.outs.items rig.clock)
-        → (after : Rigged result.rig.texts.items result.rig.outs.items result.rig.clock)
-        → Rose (S.faults before.source) (S.faults after.source) }
-    ensures clock_fault { result.status ≡ 7 → (before : Rigged rig.texts.items rig.outs.items rig.clock)
-        → (after : Rigged result.rig.texts.items result.rig.outs.items result.rig.clock)
-        → Rose (C.faults before.watch) (C.faults after.watch) }
-    ensures sink_fault { result.status ≡ 5 → (before : Rigged rig.texts.items rig.outs.items rig.clock)
-        → (after : Rigged result.rig.texts.items result.rig.outs.items result.rig.clock)
-        → Rose (K.faults before.file) (K.faults after.file) ⊎ Rose (K.faults rig.out) (K.faults result.rig.out) }
+    ensures runs_all { IsRun (map string_bytes words.now)
+        → CanRun (sense_of S.left S.faults K.written K.faults D.shown C.readings C.faults) rig
+        → NothingFailed (sense_of S.left S.faults K.written K.faults D.shown C.readings C.faults) rig result.rig
+        → (result.status ≡ 0) ⊎ (result.status ≡ 1) ⊎ (result.status ≡ 8) }
 {
-    match print_zone(words) {
-        Some(zone) => {
-            let mut book = Book {
-                core: Core::new(alloc, LAST_NSR),
-                zone,
-            };
-            print_over(&mut book, rig)
-        }
+    match asked_of(words) {
+        Some(Asked::Print { zone }) => print_over(alloc, zone, rig),
+        Some(Asked::Create) => create_over(alloc, rig),
+        Some(Asked::Run) => run_over(alloc, rig),
         None => refuse(rig),
-    }
-}
-
-/// Runs `print` over the rig.
-fn print_over<S: Source, K: Sink, C: Clock>(
-    book: &mut Book,
-    mut rig: Rig<S, K, C>,
-) -> Outcome<S, K, C>
-    requires zone { IsOffset book.old.zone }
-    requires limit { book.old.core.limit ≡ last_nsr }
-    requires empty { Stands book.old.core [] }
-    requires rigged { Rigged rig.texts.items rig.outs.items rig.clock }
-    ensures printed { (before : Rigged rig.texts.items rig.outs.items rig.clock)
-        → (after : Rigged result.rig.texts.items result.rig.outs.items result.rig.clock)
-        → Printed S.left K.written C.readings K.faults book.old.zone result.status
-        before.source before.file rig.out before.watch after.file result.rig.out after.watch }
-    ensures rigged { Rigged result.rig.texts.items result.rig.outs.items result.rig.clock }
-    ensures source_fault { result.status ≡ 4 → (before : Rigged rig.texts.items rig.outs.items rig.clock)
-        → (after : Rigged result.rig.texts.items result.rig.outs.items result.rig.clock)
-        → Rose (S.faults before.source) (S.faults after.source) }
-    ensures clock_fault { result.status ≡ 7 → (before : Rigged rig.texts.items rig.outs.items rig.clock)
-        → (after : Rigged result.rig.texts.items result.rig.outs.items result.rig.clock)
-        → Rose (C.faults before.watch) (C.faults after.watch) }
-    ensures sink_fault { result.status ≡ 5 → (before : Rigged rig.texts.items rig.outs.items rig.clock)
-        → (after : Rigged result.rig.texts.items result.rig.outs.items result.rig.clock)
-        → Rose (K.faults before.file) (K.faults after.file) ⊎ Rose (K.faults rig.out) (K.faults result.rig.out) }
-    ensures unopened { (result.status ≡ 0 → ⊥) → (result.status ≡ 5 → ⊥)
-        → (before : Rigged rig.texts.items rig.outs.items rig.clock)
-        → (after : Rigged result.rig.texts.items result.rig.outs.items result.rig.clock)
-        → after.file ≡ before.file }
-    ensures not_words { result.status ≡ 2 → ⊥ }
-{
-    let Some(source) = rig.texts.pop() else {
-        unreachable!()
-    };
-    let mut lines = lines_of(source);
-    let Some(file) = rig.outs.first_mut() else {
-        unreachable!()
-    };
-    let Some(clock) = rig.clock.as_mut() else {
-        unreachable!()
-    };
-    let status = run_print(book, &mut lines, file, clock, &mut rig.out);
-    match rig.texts.push(lines.into_source()) {
-        Ok(()) => Outcome { rig, status },
-        Err(_) => unreachable!(),
-    }
-}
-
-/// Says that the words are those of no command. Where that fails, there is nowhere else to say it.
-fn say_wrong_words<K: Sink>(out: &mut K)
-    ensures says { SaysLine (fault_text 2) (K.written out.old) (K.written out.new)
-        (Rose (K.faults out.old) (K.faults out.new)) }
-{
-    match put_all(out, fault_line(WRONG_WORDS).bytes()) {
-        Ok(()) => {}
-        Err(_) => {}
-    }
-}
-
-/// Answers that the words are those of no command.
-fn refuse<S: Source, K: Sink, C: Clock>(mut rig: Rig<S, K, C>) -> Outcome<S, K, C>
-    ensures status { result.status ≡ 2 }
-    ensures refuses { Refuses rig.texts.items result.rig.texts.items rig.outs.items result.rig.outs.items rig.clock result.rig.clock
-        (K.written rig.out) (K.written result.rig.out) (Rose (K.faults rig.out) (K.faults result.rig.out)) }
-{
-    say_wrong_words(&mut rig.out);
-    Outcome {
-        rig,
-        status: WRONG_WORDS,
     }
 }

@@ -1,6 +1,6 @@
 -- What stands at the keys of a TOML table. TOML is the language that the kit's `toml` reads (TOML 1.1).
 use Rattle.std.specs.Prelude.{◌≡◌, ℕ, ◌⊎◌, ℤ, List, Some, None, IsUtf8, Contains}
-use Rattle.toml.specs.Data.{Data, Members, string, integer, get_member}
+use Rattle.toml.specs.Data.{Data, Items, Members, string, integer, array, table, get_member}
 use Rattle.toml.specs.Parse.{parse_document}
 
 -- the text is UTF-8, and a TOML document with these members
@@ -23,6 +23,14 @@ HasText members key text = get_member key members ≡ Some (string text)
 -- the integer stands at the key
 abbrev pub HasInteger : Members → List ℕ → ℤ → Type 0
 HasInteger members key number = get_member key members ≡ Some (integer number)
+
+-- the array stands at the key
+abbrev pub HasArray : Members → List ℕ → Items → Type 0
+HasArray members key items = get_member key members ≡ Some (array items)
+
+-- the table stands at the key
+abbrev pub HasSubtable : Members → List ℕ → Members → Type 0
+HasSubtable members key row = get_member key members ≡ Some (table row)
 
 -- a key that may be missing, and then has the default
 abbrev pub HasOr : {V : Type 0} → V → (Members → List ℕ → V → Type 0) → Members → List ℕ → V → Type 0

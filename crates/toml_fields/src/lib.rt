@@ -12,4 +12,6 @@ pub use fields::{
     cpf_at, id_at, number_at, number_or, offset_at, some_text_at, text_at, text_or_empty,
 };
 pub use latin::read_latin;
-pub use table::{TomlFault, has_only, integer_at, is_missing, read_table, str_at};
+pub use table::{
+    TomlFault, array_at, has_only, integer_at, is_missing, read_table, str_at, table_at,
+};

@@ -2,11 +2,12 @@
 ghost use Rattle.std.specs.Prelude.{◌≡◌, ◌↔◌, map, option_map, Contains, IfOk, IsTrue};
 ghost use Rattle.std.specs.Option.{option_copied};
 ghost use Rattle.toml.specs.Data.{get_member};
-ghost use Rattle.toml.specs.View.{view, table_view};
+ghost use Rattle.toml.specs.View.{view, array_view, table_view};
 ghost use Rattle.toml_fields.specs.Answering.{Finds};
-ghost use Rattle.toml_fields.specs.Table.{IsTomlOf, IsNoToml, IsMissing, HasText, HasInteger, HasOnly};
+ghost use Rattle.toml_fields.specs.Table.{IsTomlOf, IsNoToml, IsMissing, HasText, HasInteger, HasArray, HasSubtable, HasOnly};
 
 use std::alloc::Global;
+use toml::value::Array;
 use toml::{Table, Value};
 
 /// A text isn't read as a table.
@@ -68,6 +69,28 @@ pub fn integer_at(table: &Table, key: &str) -> Option<i64>
 {
     match value_at(table, key) {
         Some(value) => value.as_integer(),
+        None => None,
+    }
+}
+
+/// The array at the key, where one stands there.
+pub fn array_at<'a>(table: &'a Table, key: &str) -> Option<&'a Array>
+    ensures { Finds (HasArray (table_view table.now) key.now)
+        (option_map (λ array. array_view array.now) result) }
+{
+    match value_at(table, key) {
+        Some(value) => value.as_array(),
+        None => None,
+    }
+}
+
+/// The table at the key, where one stands there.
+pub fn table_at<'a>(table: &'a Table, key: &str) -> Option<&'a Table>
+    ensures { Finds (HasSubtable (table_view table.now) key.now)
+        (option_map (λ inner. table_view inner.now) result) }
+{
+    match value_at(table, key) {
+        Some(value) => value.as_table(),
         None => None,
     }
 }

@@ -1,4 +1,4 @@
-use Rattle.std.proofs.Common.{◌≡◌, ℕ, map, take, string_bytes}
+use Rattle.std.proofs.Common.{◌≡◌, map, take, string_bytes}
 use Rattle.rep_cli.specs.Paths.{word_at}
 use Rattle.rep_cli.proofs.rigging.sources.Given as goal
 

@@ -1,4 +1,4 @@
-use Rattle.std.proofs.Common.{◌≡◌, arith}
+use Rattle.std.proofs.Common.{arith}
 use Rattle.rep_journal.proofs.HeadLemmas.{head_foreign, head_open, head_closed}
 use Rattle.rep_journal.proofs.head.judge.Goals as goal
 

@@ -1,4 +1,4 @@
-use Rattle.std.proofs.Common.{◌≡◌, List, ℕ, length, take, drop, subst, arith}
+use Rattle.std.proofs.Common.{◌≡◌, ℕ, length, take, drop, subst, arith}
 use Rattle.std.specs.Prelude.{IfSome}
 use Rattle.rep_journal.proofs.HeadLemmas.{head_told}
 use Rattle.rep_journal.proofs.head.read_head.Goals as goal

@@ -1,9 +1,8 @@
-use Rattle.std.proofs.Common.{◌≡◌, ◌≤◌, ◌+◌, List, ℕ, [], ◌∷◌, ◌++◌, length, refl, subst, ◌∙◌, arith}
+use Rattle.std.proofs.Common.{◌≡◌, ◌+◌, List, ℕ, [], ◌∷◌, ◌++◌, length, subst, ◌∙◌, arith}
 use Rattle.rep_disk.specs.Disk.{Changes, Torn, Written, Moves}
 use Rattle.rep_journal.specs.Format.{open_gate, frame_text, end_of, Framed}
-use Rattle.rep_journal.specs.State.{MakesCalls}
 use Rattle.rep_journal.specs.Putting.{FailsToWrite, WritesSurely}
-use Rattle.rep_journal.proofs.PutLemmas.{is_staged, appends, leaves, fails, fails_early, err_match, err_only, ok_none, calls_of, failed_calls, more_calls, calls_within}
+use Rattle.rep_journal.proofs.PutLemmas.{is_staged, appends, leaves, fails, fails_early, err_only, ok_none, calls_of, failed_calls, more_calls, calls_within}
 use Rattle.rep_journal.proofs.MomentLemmas.{staged_moments, opened_moments}
 use Rattle.rep_journal.proofs.putting.append.Given.{Over}
 use Rattle.rep_journal.proofs.putting.append.Goals as goal

@@ -1,15 +1,14 @@
-use Rattle.std.proofs.Common.{◌≡◌, [], refl, arith}
-use Rattle.rep_journal.proofs.PutLemmas.{within_journal, err_match, ok_none, calls_within}
-use Rattle.rep_journal.proofs.BlankLemmas.{begun, not_begun, first_put, first_text, still_blank, made_is, create_calls, create_fails, blank_later, both_ways}
+use Rattle.std.proofs.Common.{[], refl}
+use Rattle.rep_journal.proofs.PutLemmas.{within_journal, err_only, ok_none, calls_within}
+use Rattle.rep_journal.proofs.BlankLemmas.{begun, not_begun, first_put, first_text, fails_first, fails_next, made_is, create_calls, blank_later, both_ways}
 use Rattle.rep_journal.proofs.putting.begin.Goals as goal
 
 pub returns-in_err-write_blank-clause-contents : goal.returns-in_err-write_blank-clause-contents
-returns-in_err-write_blank-clause-contents g c =
-    err_match c.from_residual.result _ _ c.from_residual.ensures.0
-    (still_blank c.args.first.now (g.D.Disk.shown c.args.disk.now).contents (g.D.Disk.shown c.write_blank.new.disk).contents c.in_err-write_blank.ensures.contents)
+returns-in_err-write_blank-clause-contents g c = ok_none c.from_residual.result _ c.from_residual.ensures.0
 
-pub returns-in_err-write_blank-clause-calls : goal.returns-in_err-write_blank-clause-calls
-returns-in_err-write_blank-clause-calls g c = create_fails c.args.is_short (g.D.Disk.shown c.args.disk.now) (g.D.Disk.shown c.write_blank.new.disk) c.from_residual.result c.from_residual.ensures.0 c.in_err-write_blank.ensures.calls
+pub returns-in_err-write_blank-clause-fails : goal.returns-in_err-write_blank-clause-fails
+returns-in_err-write_blank-clause-fails g c =
+    err_only c.from_residual.result _ (fails_first c.args.first.now c.args.is_short (g.D.Disk.shown c.args.disk.now) (g.D.Disk.shown c.write_blank.new.disk) c.in_err-write_blank.ensures.contents c.in_err-write_blank.ensures.calls)
 
 pub returns-in_err-write_blank-clause-crash : goal.returns-in_err-write_blank-clause-crash
 returns-in_err-write_blank-clause-crash g c = not_begun c.args.first.now (g.D.Disk.shown c.args.disk.now) (g.D.Disk.shown c.write_blank.new.disk) c.write_blank.ensures.crash
@@ -23,7 +22,14 @@ returns-clause-contents g c =
     let made = c.in_ok-write_blank.ensures.contents in
     let stands = made_is (g.D.Disk.shown c.args.disk.now).contents (g.D.Disk.shown c.write_blank.new.disk).contents made in
     first_put c.args.first.now (g.D.Disk.shown c.args.disk.now) (g.D.Disk.shown c.write_blank.new.disk) (g.D.Disk.shown c.append.new.disk) c.append.result made
-    (c.append.ensures.contents [] refl stands) (c.append.ensures.fails [] refl stands)
+    (c.append.ensures.contents [] refl stands)
+
+pub returns-clause-fails : goal.returns-clause-fails
+returns-clause-fails g c =
+    let made = c.in_ok-write_blank.ensures.contents in
+    let stands = made_is (g.D.Disk.shown c.args.disk.now).contents (g.D.Disk.shown c.write_blank.new.disk).contents made in
+    fails_next c.args.first.now c.args.is_short (g.D.Disk.shown c.args.disk.now) (g.D.Disk.shown c.write_blank.new.disk) (g.D.Disk.shown c.append.new.disk) c.append.result made c.in_ok-write_blank.ensures.calls
+    (c.append.ensures.fails [] refl stands)
 
 pub returns-clause-text : goal.returns-clause-text
 returns-clause-text g c =

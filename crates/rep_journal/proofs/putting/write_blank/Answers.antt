@@ -1,4 +1,4 @@
-use Rattle.std.proofs.Common.{◌≡◌, refl, arith}
+use Rattle.std.proofs.Common.{arith}
 use Rattle.rep_journal.proofs.PutLemmas.{calls_of, calls_within}
 use Rattle.rep_journal.proofs.BlankLemmas.{written_blank, blank_written, blank_behind, blank_moments, blank_calls, long_becomes, long_behind, long_moments, short_of, long_of, if_long}
 use Rattle.rep_journal.proofs.putting.write_blank.Goals as goal

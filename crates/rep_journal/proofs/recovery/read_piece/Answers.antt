@@ -1,6 +1,5 @@
-use Rattle.std.proofs.Common.{◌≡◌, ℕ, List, length, take, drop, subst, arith}
-use Rattle.std.specs.Prelude.{IfSome, nat_lt}
-use Rattle.rep_journal.specs.Scan.{TakesFrames}
+use Rattle.std.proofs.Common.{◌≡◌, ℕ, length, take, drop, subst, arith}
+use Rattle.std.specs.Prelude.{IfSome}
 use Rattle.rep_journal.proofs.ScanLemmas.{none_read, scans_told}
 use Rattle.rep_journal.proofs.recovery.read_piece.Goals as goal
 

@@ -1,9 +1,9 @@
-use Rattle.std.proofs.Common.{◌≡◌, ◌+◌, ◌<◌, ◌≤◌, [], ℕ, List, length, Ok, Result, ap, sym, ◌∙◌, subst, arith}
+use Rattle.std.proofs.Common.{List, Ok, ap, sym, ◌∙◌, subst, arith}
 use Rattle.std.specs.Prelude.{IfSome}
 use Rattle.rep_journal.specs.Format.{Framed}
 use Rattle.rep_journal.specs.Scan.{IsScanned, IsScannedTo}
 use Rattle.rep_journal.specs.declared.stop.Stop.{Stop}
-use Rattle.rep_journal.proofs.ReadLemmas.{IsReading, read_same, read_on, starts, goes_on, ends_broken, ends_kept}
+use Rattle.rep_journal.proofs.ReadLemmas.{read_same, read_on, starts, goes_on, ends_broken, ends_kept}
 use Rattle.rep_journal.proofs.recovery.read_pieces.Goals as goal
 
 pub loop-why-init : goal.loop-why-init

@@ -1,37 +1,67 @@
-use Rattle.std.proofs.Common.{rules, ◌≡◌, ◌∙◌, Some, ℤ, w16, to_z, of_z, sym, subst}
-use Rattle.rep_top.specs.Rigged.{Printed}
-use Rattle.rep_top.proofs.Complete.{completes, neither}
+use Rattle.std.proofs.Common.{rules, ◌≡◌, ◌∙◌, ℤ, w16, to_z, of_z, sym, subst, inl}
+use Rattle.rep_words.specs.declared.words.Asked.TheVariants.{Print, Create, Run}
+use Rattle.rep_top.specs.Program.{sense_of}
+use Rattle.rep_top.specs.Commands.{PrintsOver}
+use Rattle.rep_top.proofs.Rising.{one_rose, first_rose, second_rose, file_rose, that_rose, none_isnt_some}
 use Rattle.rep_top.proofs.program.top.Goals as goal
 
-pub returns-in-Some-clause-printed : goal.returns-in-Some-clause-printed
-returns-in-Some-clause-printed g c zone is before after =
-    let both : Some c.in-Some.zone ≡ Some zone = sym c.in-Some.is ∙ c.print_zone.ensures.only zone is in
-    let found : c.in-Some.zone ≡ zone = search rules in
-    let same : to_z w16 (of_z w16 c.in-Some.zone) ≡ zone = search rules in
-    subst (λ (z : ℤ). Printed g.S.Source.left g.K.Sink.written g.C.Clock.readings g.K.Sink.faults z c.print_over.result.status
-    before.source before.file c.args.rig.out before.watch after.file c.print_over.result.rig.out after.watch) same (c.print_over.ensures.printed before after)
+pub returns-in-Some-Print-clause-printed : goal.returns-in-Some-Print-clause-printed
+returns-in-Some-Print-clause-printed g c zone is =
+    let both = sym c.in-Some-Print.is ∙ c.asked_of.ensures.only (Print zone) is in
+    let found : c.in-Some-Print.zone ≡ zone = search rules in
+    let same : to_z w16 (of_z w16 c.in-Some-Print.zone) ≡ zone = search rules in
+    subst (λ (z : ℤ). PrintsOver z (sense_of g.S.Source.left g.S.Source.faults g.K.Sink.written g.K.Sink.faults g.D.Disk.shown g.C.Clock.readings g.C.Clock.faults)
+    c.args.rig c.print_over.result.rig c.print_over.result.status) same c.print_over.ensures.printed
 
-pub returns-in-None-clause-only_off_grammar : goal.returns-in-None-clause-only_off_grammar
-returns-in-None-clause-only_off_grammar g c two on =
-    let both = sym c.in-None.is ∙ c.print_zone.ensures.only on.0 on.1 in absurd cc
+pub returns-in-Some-Print-clause-prints_all : goal.returns-in-Some-Print-clause-prints_all
+returns-in-Some-Print-clause-prints_all g c zone is can none =
+    let before = can.parts in
+    let after = c.print_over.ensures.rigged in
+    c.print_over.ensures.complete can.text before after can.told can.printable
+    (λ rose. none.sources (one_rose g.S.Source.faults _ _ before.source after.source before.text_is after.text_is rose))
+    (λ rose. none.clock (that_rose g.C.Clock.faults _ _ before.watch after.watch before.clock_is after.clock_is rose))
+    (λ rose. none.sinks (file_rose g.K.Sink.faults _ _ before.file after.file _ _ before.out_is after.out_is rose))
+    (λ rose. none.sinks (inl rose))
+
+pub returns-in-Some-Create-clause-creates_all : goal.returns-in-Some-Create-clause-creates_all
+returns-in-Some-Create-clause-creates_all g c is can none =
+    let before = can.parts in
+    let after = c.create_over.ensures.rigged in
+    c.create_over.ensures.complete can.text can.contents can.site before after can.told can.said can.there can.blank
+    (λ rose. none.sources (one_rose g.S.Source.faults _ _ before.site after.site before.text_is after.text_is rose))
+    (λ rose. none.clock (that_rose g.C.Clock.faults _ _ before.watch after.watch before.clock_is after.clock_is rose))
+    (λ rose. none.sinks (inl rose))
+    (λ rose. none.disk (that_rose (λ d. (g.D.Disk.shown d).faults) _ _ before.drive after.drive before.disk_is after.disk_is rose))
+
+pub returns-in-Some-Run-clause-runs_all : goal.returns-in-Some-Run-clause-runs_all
+returns-in-Some-Run-clause-runs_all g c is can none =
+    let before = can.parts in
+    let after = c.run_over.ensures.rigged in
+    c.run_over.ensures.complete can.site_text can.lane_text can.contents before after can.site_told can.lane_told can.there can.servable
+    (λ rose. none.sources (first_rose g.S.Source.faults _ _ before.site after.site before.lane after.lane before.text_is after.text_is rose))
+    (λ rose. none.sources (second_rose g.S.Source.faults _ _ before.site after.site before.lane after.lane before.text_is after.text_is rose))
+    (λ rose. none.sinks (file_rose g.K.Sink.faults _ _ before.replies after.replies _ _ before.out_is after.out_is rose))
+    (λ rose. none.sinks (inl rose))
+    (λ rose. none.disk (that_rose (λ d. (g.D.Disk.shown d).faults) _ _ before.drive after.drive before.disk_is after.disk_is rose))
+    (λ rose. none.clock (that_rose g.C.Clock.faults _ _ before.watch after.watch before.clock_is after.clock_is rose))
 
 pub returns-in-None-clause-printed : goal.returns-in-None-clause-printed
-returns-in-None-clause-printed g c zone is before after =
-    let both = sym c.in-None.is ∙ c.print_zone.ensures.only zone is in absurd cc
+returns-in-None-clause-printed g c zone is = absurd (none_isnt_some c.asked_of.result (Print zone) c.in-None.is (c.asked_of.ensures.only (Print zone) is))
 
-pub returns-in-Some-clause-complete : goal.returns-in-Some-clause-complete
-returns-in-Some-clause-complete g c zone text is before after told acceptable source clock file out =
-    let both : Some c.in-Some.zone ≡ Some zone = sym c.in-Some.is ∙ c.print_zone.ensures.only zone is in
-    let found : c.in-Some.zone ≡ zone = search rules in
-    let same : to_z w16 (of_z w16 c.in-Some.zone) ≡ zone = search rules in
-    let printed = subst (λ (z : ℤ). Printed g.S.Source.left g.K.Sink.written g.C.Clock.readings g.K.Sink.faults z c.print_over.result.status
-    before.source before.file c.args.rig.out before.watch after.file c.print_over.result.rig.out after.watch) same (c.print_over.ensures.printed before after) in
-    completes zone text c.print_over.result.status acceptable
-    (λ four. source (c.print_over.ensures.source_fault four before after))
-    (λ five. neither file out (c.print_over.ensures.sink_fault five before after))
-    (λ seven. clock (c.print_over.ensures.clock_fault seven before after))
-    _ _ _ _ _ (printed.prints text told)
+pub returns-in-None-clause-created : goal.returns-in-None-clause-created
+returns-in-None-clause-created g c is = absurd (none_isnt_some c.asked_of.result Create c.in-None.is (c.asked_of.ensures.only Create is))
 
-pub returns-in-None-clause-complete : goal.returns-in-None-clause-complete
-returns-in-None-clause-complete g c zone text is before after told acceptable source clock file out =
-    let both = sym c.in-None.is ∙ c.print_zone.ensures.only zone is in absurd cc
+pub returns-in-None-clause-safe : goal.returns-in-None-clause-safe
+returns-in-None-clause-safe g c is = absurd (none_isnt_some c.asked_of.result Create c.in-None.is (c.asked_of.ensures.only Create is))
+
+pub returns-in-None-clause-ran : goal.returns-in-None-clause-ran
+returns-in-None-clause-ran g c is = absurd (none_isnt_some c.asked_of.result Run c.in-None.is (c.asked_of.ensures.only Run is))
+
+pub returns-in-None-clause-prints_all : goal.returns-in-None-clause-prints_all
+returns-in-None-clause-prints_all g c zone is = absurd (none_isnt_some c.asked_of.result (Print zone) c.in-None.is (c.asked_of.ensures.only (Print zone) is))
+
+pub returns-in-None-clause-creates_all : goal.returns-in-None-clause-creates_all
+returns-in-None-clause-creates_all g c is = absurd (none_isnt_some c.asked_of.result Create c.in-None.is (c.asked_of.ensures.only Create is))
+
+pub returns-in-None-clause-runs_all : goal.returns-in-None-clause-runs_all
+returns-in-None-clause-runs_all g c is = absurd (none_isnt_some c.asked_of.result Run c.in-None.is (c.asked_of.ensures.only Run is))

@@ -1,5 +1,4 @@
-use Rattle.std.proofs.Common.{◌≡◌, ◌≤◌, sym, subst, ℕ, ap, arith}
-use Rattle.rep_journal.specs.Listed.{end_of_journals}
+use Rattle.std.proofs.Common.{arith}
 use Rattle.rep_journal.proofs.ListLemmas.{within_end}
 use Rattle.rep_journal.proofs.frame_list.FrameList.end.Goals as goal
 

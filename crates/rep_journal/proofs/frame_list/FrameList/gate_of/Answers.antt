@@ -1,6 +1,6 @@
-use Rattle.std.proofs.Common.{◌≡◌, ◌<◌, List, ℕ, length, take, get_or, sym, subst, ap, ◌∙◌, arith}
-use Rattle.rep_journal.specs.Format.{Framed, end_of}
-use Rattle.rep_journal.specs.Listed.{Listed, gates_from}
+use Rattle.std.proofs.Common.{◌≡◌, ◌<◌, List, ℕ, length, take, get_or, ap, ◌∙◌, arith}
+use Rattle.rep_journal.specs.Format.{end_of}
+use Rattle.rep_journal.specs.Listed.{Listed}
 use Rattle.rep_journal.proofs.ListLemmas.{length-gates_from, get_or-gates_from}
 use Rattle.rep_journal.proofs.frame_list.FrameList.gate_of.Goals as goal
 

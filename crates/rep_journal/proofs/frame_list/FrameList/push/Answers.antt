@@ -1,5 +1,4 @@
-use Rattle.std.proofs.Common.{◌≡◌, ◌<◌, ◌≤◌, ◌+◌, ◌++◌, [], ◌∷◌, List, ℕ, length, ap, subst, sym, arith}
-use Rattle.rep_journal.specs.Format.{Framed}
+use Rattle.std.proofs.Common.{◌≡◌, ◌+◌, ◌++◌, [], ◌∷◌, ℕ, length, ap, subst, sym, arith}
 use Rattle.rep_journal.specs.Listed.{Listed, IsListed}
 use Rattle.rep_journal.proofs.ListLemmas.{within_end, listed_push}
 use Rattle.rep_journal.proofs.FormatLemmas.{longest_frame, length-frame_text}

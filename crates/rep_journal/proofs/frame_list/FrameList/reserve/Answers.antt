@@ -1,4 +1,4 @@
-use Rattle.std.proofs.Common.{◌≡◌, length, ap, arith}
+use Rattle.std.proofs.Common.{length, ap, arith}
 use Rattle.rep_journal.proofs.ListLemmas.{length-gates_from}
 use Rattle.rep_journal.proofs.frame_list.FrameList.reserve.Goals as goal
 

@@ -1,4 +1,4 @@
-use Rattle.std.proofs.Common.{◌≡◌, List, ℕ, subst}
+use Rattle.std.proofs.Common.{subst}
 use Rattle.std.specs.Prelude.{IfSome}
 use Rattle.rep_journal.specs.Head.{IsHead}
 use Rattle.rep_journal.specs.declared.head.Head.{Head}

@@ -1,8 +1,10 @@
-use Rattle.std.proofs.Common.{◌≡◌, ◌+◌, ℕ, sym, subst}
+use Rattle.std.proofs.Common.{◌≡◌, ◌+◌, ◌-◌, ◌++◌, [], ◌∷◌, ℕ, List, refl, ap, sym, ◌∙◌, subst, arith}
 use Rattle.rep_disk.specs.Disk.{IsWithin}
-use Rattle.rep_journal.specs.State.{State}
+use Rattle.rep_journal.specs.State.{Appends, Becomes, Leaves, State}
+use Rattle.rep_journal.specs.Format.{Framed}
 use Rattle.rep_journal.specs.Recovery.{Puts}
 use Rattle.rep_journal.proofs.PutLemmas.{within_journal}
+use Rattle.rep_journal.proofs.BlankLemmas.{of_ok}
 use Rattle.rep_journal.proofs.journal.Journal.put.Goals as goal
 
 pub append-requires-clause-within : goal.append-requires-clause-within
@@ -14,3 +16,21 @@ pub returns-clause-crash : goal.returns-clause-crash
 returns-clause-crash g c =
     subst (λ (s : State g.row.D.Denot). Puts s.frames c.args.frame.now (g.D.Disk.shown s.disk) (g.D.Disk.shown c.append.new.disk)) c.self.view_is
     (c.append.ensures.crash c.self.inside.list.frames c.end.ensures.end c.self.invariant.settled.stands c.self.invariant.settled.rest)
+
+pub returns-clause-put : goal.returns-clause-put
+returns-clause-put g c =
+    let ok = sym c.is_err.ensures.value ∙ c.if-is_err.false in
+    let frames : c.push.new.self.frames ≡ c.self.inside.list.frames ++ c.args.frame.now ∷ [] = c.push.ensures.frames ∙ ap (λ (f : Framed). c.self.inside.list.frames ++ f ∷ []) c.copy.ensures.same in
+    let end = c.end.ensures.end in
+    let stands = c.self.invariant.settled.stands in
+    subst (λ (s : State g.row.D.Denot). Appends g.D.Disk.shown c.args.frame.now s (record { disk = c.append.new.disk; frames = c.push.new.self.frames; spare = c.self.inside.spare - 1; faults = c.self.inside.faults })) c.self.view_is (record {
+      frames = frames;
+      contents = subst (λ (fs : List Framed). Becomes fs (g.D.Disk.shown c.self.inside.disk).contents (g.D.Disk.shown c.append.new.disk).contents) (sym frames) (of_ok c.append.result _ _ ok (c.append.ensures.contents c.self.inside.list.frames end stands));
+      text = subst (λ (fs : List Framed). Leaves fs (g.D.Disk.shown c.self.inside.disk).contents (g.D.Disk.shown c.append.new.disk).contents) (sym frames) (of_ok c.append.result _ _ ok (c.append.ensures.text c.self.inside.list.frames end stands));
+      rest = of_ok c.append.result _ _ ok c.append.ensures.rest;
+      spare = omega arith;
+      faults = refl;
+      calls = of_ok c.append.result _ _ ok c.append.ensures.calls;
+      own = c.append.ensures.own;
+      disk_faults = c.append.ensures.cause.later;
+    })

@@ -1,0 +1,7 @@
+mod Counting
+mod Days
+mod Frames
+mod Fronts
+mod History
+mod Reading
+mod Whole

@@ -1,0 +1,3 @@
+pub mod Period
+pub mod Extract
+pub mod Steps

@@ -1,0 +1,5 @@
+pub mod AfdLemmas
+pub mod BeginningLemmas
+pub mod FillingLemmas
+pub mod LineEndLemmas
+pub mod RunLemmas

@@ -1,0 +1,5 @@
+pub mod LineEnds
+pub mod Numbered
+pub mod Beginning
+pub mod Index
+pub mod Filling

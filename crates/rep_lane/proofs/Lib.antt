@@ -1,0 +1,9 @@
+pub mod ReadingLemmas
+pub mod NextLines
+pub mod HeadLines
+pub mod AnswerLemmas
+pub mod ServingLemmas
+pub mod LineLemmas
+pub mod StepLemmas
+pub mod RunLemmas
+pub mod FrontLemmas

@@ -1,0 +1,9 @@
+pub mod LaneText
+pub mod Answers
+pub mod Desk
+pub mod Serving
+pub mod Fronts
+pub mod Head
+pub mod Line
+pub mod Lane
+pub mod Next

@@ -1,0 +1,7 @@
+pub mod HashTexts
+pub mod Nexts
+pub mod LedgerLemmas
+pub mod DiskSteps
+pub mod ReplaySteps
+pub mod SafetyLemmas
+pub mod ContentLemmas

@@ -1,0 +1,6 @@
+pub mod Asked
+pub mod Fitting
+pub mod Taking
+pub mod Ledger
+pub mod Safety
+pub mod Replaying

@@ -1,0 +1,12 @@
+pub mod FileLemmas
+pub mod SummaryLemmas
+pub mod DeskLemmas
+pub mod HeadLines
+pub mod LaneLemmas
+pub mod StopLemmas
+pub mod GoLemmas
+pub mod ClosingLemmas
+pub mod EmployerLemmas
+pub mod CountLemmas
+pub mod PrintLemmas
+pub mod StatusLemmas

@@ -1,0 +1,19 @@
+use Rattle.std.proofs.Common.{ap, subst}
+use Rattle.rep_core.specs.Verdict.{IsVerdict}
+use Rattle.rep_core.specs.declared.verdict.Verdict.TheVariants.{Fresh}
+use Rattle.rep_core.proofs.Standing.{Stands-own}
+use Rattle.rep_print.proofs.DeskLemmas.{verdict_at, settled}
+use Rattle.rep_print.proofs.desk.PrintDeskDesk.call.Goals as goal
+
+pub take-requires-clause-fresh : goal.take-requires-clause-fresh
+take-requires-clause-fresh g c =
+    let core = c.self.inside.core in
+    verdict_at _ _ _ _ c.args.q.now Fresh
+    (subst (λ v. IsVerdict core.limit core.entries c.args.q.now v) c.in-Fresh.is (c.decide.ensures core.entries (Stands-own core)))
+    c.self.invariant.0 (ap (λ s. s.history) c.self.view_is)
+
+pub returns-in_default : goal.returns-in_default
+returns-in_default g c =
+    let core = c.self.inside.core in
+    settled g.C.Clock.readings g.C.Clock.faults c.args.q.now c.args.self.now core c.decide.result c.reply.result (ap (λ s. s.history) c.self.view_is) c.self.invariant.0
+    c.decide.ensures c.in_default.not-Fresh c.reply.ensures

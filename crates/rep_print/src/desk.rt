@@ -1,0 +1,148 @@
+//! The recorder in memory that serves a printed lane.
+ghost use Rattle.std.specs.Prelude.{◌≡◌, ◌≤◌, [], length, Err};
+ghost use Rattle.rep_io.specs.Causes.{Rose};
+ghost use Rattle.rep_fields.specs.Moment.{IsOffset};
+ghost use Rattle.afd_records.specs.Record.{last_nsr};
+ghost use Rattle.rep_wire.specs.Request.{IsRequest};
+ghost use Rattle.rep_core.specs.Verdict.{IsVerdict};
+ghost use Rattle.rep_core.specs.declared.verdict.Verdict.{Verdict};
+ghost use Rattle.rep_print.specs.Desk.{Asks, Shows};
+ghost use Rattle.rep_print.specs.Steps.{MakesFile};
+ghost use Rattle.rep_print.specs.Writing.{HasEmployer};
+
+use crate::afd::write_file;
+use rep_core::{Core, Verdict};
+use rep_fields::Stamp;
+use rep_io::{Clock, Sink};
+use rep_lane::{Desk, DeskFail};
+use rep_report::Ending;
+use rep_wire::{Reply, Request};
+use std::alloc::Global;
+use std::marker::Model;
+
+/// How many numbers a recorder gives out at most.
+const LAST_NSR: u32 = 999_999_999;
+
+/// A recorder in memory, with a clock.
+#[derive(Drop)]
+pub struct PrintDesk<C: Clock> {
+    core: Core,
+    clock: C,
+    // how far the recorder's clock is ahead of UTC, in minutes
+    zone: i16,
+}
+
+impl<C: Clock> Model for PrintDesk<C> {
+    ghost use Rattle.std.specs.Prelude.{◌≡◌};
+    ghost use Rattle.rep_fields.specs.Moment.{IsOffset};
+    ghost use Rattle.afd_records.specs.Record.{last_nsr};
+    ghost use Rattle.rep_print.specs.Desk.{State};
+
+    ghost Value = { State C };
+
+    ghost view = { λ d. record { history = d.core.entries; clock = d.clock; zone = d.zone } };
+
+    ghost invariant = { λ d. (d.core.limit ≡ last_nsr) × IsOffset d.zone };
+}
+
+impl<C: Clock> PrintDesk<C> {
+    /// A recorder with no entry, whose clock is so many minutes ahead of UTC. It takes no memory yet.
+    pub fn new(alloc: Global, zone: i16, clock: C) -> PrintDesk<C>
+        requires { IsOffset zone }
+        ensures empty { result.history ≡ [] }
+        ensures clock { result.clock ≡ clock }
+        ensures zone { result.zone ≡ zone }
+    {
+        PrintDesk {
+            core: Core::new(alloc, LAST_NSR),
+            clock,
+            zone,
+        }
+    }
+
+    /// How many entries the history has.
+    pub fn count(&self) -> u32
+        ensures { result ≡ length self.now.history }
+    {
+        self.core.count()
+    }
+
+    /// Makes the AFD of the history at the clock's next reading, and writes it.
+    ///
+    /// # Errors
+    ///
+    /// `ClockFault` only where the clock failed: nothing is written then. `SinkFault` only where the sink failed, which
+    /// then has a front of the AFD.
+    pub fn make_file<K: Sink>(&mut self, file: &mut K) -> Result<(), Ending>
+        requires { HasEmployer self.old.history }
+        ensures makes { MakesFile self.old.zone self.old.history (C.readings self.old.clock) (C.readings self.new.clock)
+            (K.written file.old) (K.written file.new) result }
+        ensures history { self.new.history ≡ self.old.history }
+        ensures clock_later { C.faults self.old.clock ≤ C.faults self.new.clock }
+        ensures clock_fault { result ≡ Err Ending.ClockFault
+            → Rose (C.faults self.old.clock) (C.faults self.new.clock) }
+        ensures file_later { K.faults file.old ≤ K.faults file.new }
+        ensures file_fault { result ≡ Err Ending.SinkFault
+            → Rose (K.faults file.old) (K.faults file.new) }
+        ensures unopened { result ≡ Err Ending.ClockFault → file.new ≡ file.old }
+    {
+        let Ok(minute) = self.clock.now() else {
+            return Err(Ending::ClockFault);
+        };
+        let Some(made) = Stamp::at(minute, self.zone) else {
+            unreachable!()
+        };
+        match write_file(&self.core, made, file) {
+            Ok(()) => Ok(()),
+            Err(_) => Err(Ending::SinkFault),
+        }
+    }
+
+    /// The clock as it stands.
+    pub fn into_clock(self) -> C
+        ensures { result ≡ self.clock }
+    {
+        let PrintDesk {
+            core: _,
+            clock,
+            zone: _,
+        } = self;
+        clock
+    }
+
+    // Records a request at the next reading of the clock, and answers it.
+    fn take(&mut self, q: &Request) -> Result<Reply, DeskFail>
+        requires asked { IsRequest q.now }
+        requires fresh { IsVerdict last_nsr self.old.history q.now Verdict.Fresh }
+        ensures { Asks C.readings C.faults self.old q.now result self.new }
+    {
+        if self.core.reserve(q).is_err() {
+            return Err(DeskFail::OutOfMemory);
+        }
+        let Ok(minute) = self.clock.now() else {
+            return Err(DeskFail::ClockFault);
+        };
+        let Some(now) = Stamp::at(minute, self.zone) else {
+            unreachable!()
+        };
+        self.core.accept(q, now);
+        Ok(self.core.receipt(q))
+    }
+}
+
+impl<C: Clock> Desk for PrintDesk<C> {
+    ghost asks = { λ old q result new. Asks C.readings C.faults old q result new };
+
+    ghost shows = { λ old front new. Shows old front new };
+
+    fn call(&mut self, q: &Request) -> Result<Reply, DeskFail> {
+        match self.core.decide(q, self.core.kept(q)) {
+            Verdict::Fresh => self.take(q),
+            settled => Ok(self.core.reply(q, settled)),
+        }
+    }
+
+    fn front(&mut self) -> u32 {
+        self.count()
+    }
+}

@@ -1,0 +1,20 @@
+//! `print`: a dry run of one operator's lane over an empty history, without a disk. Each line is served, its reply goes to
+//! the output, and the AFD of the whole history to a file.
+#![tactic(auto)]
+
+mod afd;
+mod closing;
+mod command;
+mod desk;
+mod ending;
+mod lane;
+#[cfg(test)]
+mod tests;
+#[cfg(test)]
+mod tests_faults;
+#[cfg(test)]
+mod tests_lanes;
+#[cfg(test)]
+mod tests_verdicts;
+
+pub use command::{PrintDone, print};

@@ -1,0 +1,9 @@
+pub mod Known
+pub mod SettingsLemmas
+pub mod TextLemmas
+pub mod CreatingLemmas
+pub mod DeskLemmas
+pub mod StepLemmas
+pub mod ServingLemmas
+pub mod EndingLemmas
+pub mod RunningLemmas

@@ -1,0 +1,38 @@
+-- A store as the desk of a lane: this project's own.
+use Rattle.std.specs.Prelude.{◌≡◌, ℕ, List, [], length, Option, Some, None, Result, Ok, Err}
+use Rattle.rep_disk.specs.Disk.{Shown}
+use Rattle.rep_core.specs.Verdict.{IsVerdict}
+use Rattle.rep_core.specs.declared.verdict.Verdict.TheVariants.{Fresh}
+use Rattle.rep_wire.specs.declared.request.Request.{Request}
+use Rattle.rep_wire.specs.declared.reply.Reply.{Reply}
+use Rattle.rep_lane.specs.declared.desk.DeskFail.{DeskFail}
+use Rattle.rep_lane.specs.declared.desk.DeskFail.TheVariants.{Stopped, DeviceFault, ClockFault, OutOfMemory}
+use Rattle.rep_store.specs.State.{State}
+use Rattle.rep_store.specs.Steps.{LeavesAll, MissesTime, Serves, Stops, recorded_at}
+use Rattle.rep_ledger.specs.Safety.{IsSafe, Receipted, receipted_at}
+
+-- what asking for a request does to the store, by its answer
+abbrev pub AsksBy : {D C : Type 0} → (D → Shown) → (C → Option (List ℕ)) → (C → ℕ) → State D C → Request → Result Reply DeskFail → State D C → Type 0
+AsksBy shown readings faults old q (Ok reply) new = Serves shown readings faults q reply old new
+AsksBy shown readings faults old q (Err Stopped) new = (count : ℕ) × (old.stopped ≡ Some count) × LeavesAll shown old new
+AsksBy shown readings faults old q (Err DeviceFault) new = Stops shown readings faults q old new
+AsksBy shown readings faults old q (Err ClockFault) new =
+    IsVerdict old.limit old.history q Fresh × MissesTime shown readings faults old new
+AsksBy shown readings faults old q (Err OutOfMemory) new =
+    IsVerdict old.limit old.history q Fresh × LeavesAll shown old new
+
+-- the receipt that was answered at a moment, if one was
+abbrev pub receipts_of : ℕ → Result Reply DeskFail → List Receipted
+receipts_of moment (Ok reply) = receipted_at moment reply.answer
+receipts_of moment (Err why) = []
+
+-- what asking for a request leaves, by the answer, and what a crash leaves of it
+pub record Asks {D C : Type 0} (shown : D → Shown) (readings : C → Option (List ℕ)) (faults : C → ℕ) (old : State D C) (q : Request)
+    (result : Result Reply DeskFail) (new : State D C) : Type 0 where
+  pub answered : AsksBy shown readings faults old q result new
+  pub safe : old.stopped ≡ None → IsSafe (shown old.disk).moment old.history (recorded_at old.history q old.offset new.reading)
+      (receipts_of (shown new.disk).moment result) (shown old.disk) (shown new.disk)
+
+-- all entries are shown
+abbrev pub Shows : {D C : Type 0} → State D C → ℕ → State D C → Type 0
+Shows old front new = (front ≡ length old.history) × (new ≡ old)

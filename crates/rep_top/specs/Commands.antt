@@ -1,0 +1,114 @@
+-- Each command over a rig: what it does to the parts that it works on, and when all of it can be done.
+use Rattle.std.specs.Prelude.{◌≡◌, ℕ, List, IfSome, Some, ℤ}
+use Rattle.rep_disk.specs.Disk.{IsAtRest}
+use Rattle.rep_journal.specs.Format.{IsBlank}
+use Rattle.rep_site.specs.declared.site.Site.{Site}
+use Rattle.rep_print.specs.Printing.{IsPrintable}
+use Rattle.rep_print.specs.Written.{Printed}
+use Rattle.rep_run.specs.Settings.{SaysSite}
+use Rattle.rep_run.specs.Creating as creating
+use Rattle.rep_run.specs.Running as running
+use Rattle.rep_words.specs.Rigged.{PrintRig, CreateRig, RunRig}
+use Rattle.rep_words.specs.declared.rig.Rig.{Rig}
+use Rattle.rep_top.specs.Program.{Sense}
+
+-- `print`
+
+abbrev pub IsPrintRig : {S K D C : Type 0} → Rig S K D C → Type 0
+IsPrintRig rig = PrintRig rig.texts.items rig.outs.items rig.disk rig.clock
+
+abbrev pub PrintsOver : {S K D C : Type 0} → ℤ → Sense S K D C → Rig S K D C → Rig S K D C → ℕ → Type 0
+PrintsOver zone sense old new status =
+    (before : IsPrintRig old) → (after : IsPrintRig new)
+    → Printed sense.left sense.written sense.readings sense.sink_faults zone status
+    before.source before.file old.out before.watch after.file new.out after.watch
+
+-- the AFD's file isn't opened
+abbrev pub LeavesFile : {S K D C : Type 0} → Rig S K D C → Rig S K D C → Type 0
+LeavesFile old new = (before : IsPrintRig old) → (after : IsPrintRig new) → after.file ≡ before.file
+
+-- nothing of the lane is refused as a whole
+pub record CanPrint {S K D C : Type 0} (sense : Sense S K D C) (rig : Rig S K D C) : Type 0 where
+  pub parts : IsPrintRig rig
+  pub text : List ℕ
+  pub told : sense.left parts.source ≡ Some text
+  pub printable : IsPrintable text
+
+-- `create`
+
+abbrev pub IsCreateRig : {S K D C : Type 0} → Rig S K D C → Type 0
+IsCreateRig rig = CreateRig rig.texts.items rig.outs.items rig.disk rig.clock
+
+-- what is seen of the parts of `create`
+abbrev pub create_sense : {S K D C : Type 0} → Sense S K D C → creating.Meanings S D C
+create_sense sense = record {
+  left = sense.left;
+  source_faults = sense.source_faults;
+  shown = sense.shown;
+  readings = sense.readings;
+  clock_faults = sense.clock_faults;
+}
+
+abbrev pub create_parts : {S K D C : Type 0} → (rig : Rig S K D C) → IsCreateRig rig → creating.Parts S D C
+create_parts rig parts = record { source = parts.site; disk = parts.drive; clock = parts.watch }
+
+abbrev pub CreatesOver : {S K D C : Type 0} → Sense S K D C → Rig S K D C → Rig S K D C → ℕ → Type 0
+CreatesOver sense old new status =
+    (before : IsCreateRig old) → (after : IsCreateRig new)
+    → creating.Created (create_sense sense) (create_parts old before) (create_parts new after)
+    (sense.written old.out) (sense.written new.out) (sense.sink_faults old.out) (sense.sink_faults new.out) status
+
+-- where the disk is blank, a crash leaves it so, or with the journal's first record
+abbrev pub CreatesSafely : {S K D C : Type 0} → Sense S K D C → Rig S K D C → Rig S K D C → Type 0
+CreatesSafely sense old new =
+    (before : IsCreateRig old) → (after : IsCreateRig new)
+    → IsAtRest (sense.shown before.drive) → IfSome (sense.shown before.drive).contents IsBlank
+    → creating.CrashesSafely (create_sense sense) (create_parts old before) (create_parts new after)
+
+-- the text is a site's, and the disk blank
+pub record CanCreate {S K D C : Type 0} (sense : Sense S K D C) (rig : Rig S K D C) : Type 0 where
+  pub parts : IsCreateRig rig
+  pub text : List ℕ
+  pub told : sense.left parts.site ≡ Some text
+  pub site : Site
+  pub said : SaysSite text site
+  pub contents : List ℕ
+  pub there : (sense.shown parts.drive).contents ≡ Some contents
+  pub blank : IsBlank contents
+
+-- `run`
+
+abbrev pub IsRunRig : {S K D C : Type 0} → Rig S K D C → Type 0
+IsRunRig rig = RunRig rig.texts.items rig.outs.items rig.disk rig.clock
+
+-- what is seen of the parts of `run`
+abbrev pub run_sense : {S K D C : Type 0} → Sense S K D C → running.Meanings S K D C
+run_sense sense = record {
+  left = sense.left;
+  source_faults = sense.source_faults;
+  shown = sense.shown;
+  readings = sense.readings;
+  clock_faults = sense.clock_faults;
+  written = sense.written;
+  sink_faults = sense.sink_faults;
+}
+
+abbrev pub run_parts : {S K D C : Type 0} → (rig : Rig S K D C) → IsRunRig rig → running.Parts S K D C
+run_parts rig parts = record { site = parts.site; lane = parts.lane; disk = parts.drive; clock = parts.watch; replies = parts.replies }
+
+abbrev pub RunsOver : {S K D C : Type 0} → Sense S K D C → Rig S K D C → Rig S K D C → ℕ → Type 0
+RunsOver sense old new status =
+    (before : IsRunRig old) → (after : IsRunRig new)
+    → running.Ran (run_sense sense) (run_parts old before) (run_parts new after)
+    (sense.written old.out) (sense.written new.out) (sense.sink_faults old.out) (sense.sink_faults new.out) status
+
+-- nothing is refused as a whole: neither text, and the disk keeps a history
+pub record CanRun {S K D C : Type 0} (sense : Sense S K D C) (rig : Rig S K D C) : Type 0 where
+  pub parts : IsRunRig rig
+  pub site_text : List ℕ
+  pub site_told : sense.left parts.site ≡ Some site_text
+  pub lane_text : List ℕ
+  pub lane_told : sense.left parts.lane ≡ Some lane_text
+  pub contents : List ℕ
+  pub there : (sense.shown parts.drive).contents ≡ Some contents
+  pub servable : running.IsServable site_text lane_text contents

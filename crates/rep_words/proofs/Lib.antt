@@ -1,0 +1,2 @@
+mod PrintWords
+mod Lists

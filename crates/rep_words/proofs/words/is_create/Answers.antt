@@ -1,0 +1,16 @@
+use Rattle.std.proofs.Common.{◌≡◌, [], ◌∷◌, map, codes, string_bytes, Global, ap, ◌∙◌, rules, arith}
+use Rattle.std.proofs.lemmas.Grind.{common_steps}
+use Rattle.rep_words.proofs.Lists.{three_from_reads}
+use Rattle.rep_words.proofs.words.is_create.Goals as goal
+
+pub returns-then-not-is_empty-clause-found : goal.returns-then-not-is_empty-clause-found
+returns-then-not-is_empty-clause-found c named =
+    let three = three_from_reads c.args.words.now c.command-item.result c.site-item.result c.journal-item.result (omega arith) c.command-item.is c.site-item.is c.journal-item.is in
+    let command : string_bytes c.command-item.result ≡ codes "create" = search rules in
+    record {
+      site = string_bytes c.site-item.result;
+      journal = string_bytes c.journal-item.result;
+      spelled = ap (map (string_bytes {Z = Global})) three ∙ ap (λ w. w ∷ string_bytes c.site-item.result ∷ string_bytes c.journal-item.result ∷ []) command;
+      site_named = grind (arith, common_steps);
+      journal_named = grind (arith, common_steps);
+    }

@@ -1,0 +1,13 @@
+//! The words of the command line: which command they ask for, on which of them it works, and the rig of sources, sinks, disk
+//! and clock that it is handed.
+#![tactic(auto)]
+
+mod errand;
+mod rig;
+#[cfg(test)]
+mod tests;
+mod words;
+
+pub use errand::{Command, Errand, WordsFault, plan_words};
+pub use rig::{Outcome, Rig};
+pub use words::{Asked, asked_of};

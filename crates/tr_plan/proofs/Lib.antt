@@ -1,0 +1,9 @@
+pub mod RowLemmas
+pub mod IndexLemmas
+pub mod ValueLemmas
+pub mod TimesLemmas
+pub mod LoopLemmas
+pub mod TableLemmas
+pub mod RangeLemmas
+pub mod PartLemmas
+pub mod PlanLemmas

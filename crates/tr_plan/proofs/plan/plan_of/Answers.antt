@@ -1,0 +1,100 @@
+use Rattle.std.proofs.Common.{List, All, inl, inr, refl, sym, ap, subst, arith, length}
+use Rattle.std.specs.Prelude.{AllPairs}
+use Rattle.toml.specs.View.{table_view}
+use Rattle.tr_plan.specs.Schedule.{HasSchedules}
+use Rattle.tr_plan.specs.Link.{HasLinks}
+use Rattle.tr_plan.specs.Disregard.{HasDisregards}
+use Rattle.tr_plan.specs.Include.{HasIncludes}
+use Rattle.tr_plan.specs.Absence.{HasAbsences}
+use Rattle.tr_plan.specs.Plan.{HasKnownCode, AreApart}
+use Rattle.tr_plan.specs.Reading.{IsFirstUnknownCode, IsFirstOverlap}
+use Rattle.tr_plan.specs.declared.link.Link.{Link}
+use Rattle.tr_plan.specs.declared.schedule.Schedule.{Schedule}
+use Rattle.tr_plan.proofs.plan.plan_of.Goals as goal
+
+pub unknown_code-requires : goal.unknown_code-requires
+unknown_code-requires c = record { few = omega (arith, ap length c.deref.ensures.value, c.in_ok-links.ensures.few) }
+
+pub returns-in-Some-clause-off : goal.returns-in-Some-clause-off
+returns-in-Some-clause-off c =
+    let schedules = c.in_ok-schedules.schedules.schedules.items in
+    let links = c.in_ok-links.links.links.items in
+    let only = c.has_only.ensures.0 c.if-not-has_only.false in
+    let first = subst (λ (ls : List Link). IsFirstUnknownCode schedules ls c.in-Some.place) c.deref.ensures.value
+    (c.in-Some.ensures.found schedules c.in_ok-schedules.ensures.codes) in
+    inr (inr (
+      (c.in-Ok.program, c.in-Ok.ensures.ok),
+      inr (
+        (schedules, c.in_ok-schedules.ensures.ok),
+        inr (
+          (links, c.in_ok-links.ensures.ok),
+          inr (
+            (c.in_ok-disregards.disregards.items, c.in_ok-disregards.ensures.ok),
+            inr (
+              (links, c.in_ok-includes.includes.items, c.in_ok-links.ensures.ok, c.in_ok-includes.ensures.ok),
+              inr (
+                (links, c.in_ok-absences.absences.items, c.in_ok-links.ensures.ok, c.in_ok-absences.ensures.ok),
+                inr (only, inl (schedules, links, c.in-Some.place, c.in_ok-schedules.ensures.ok, c.in_ok-links.ensures.ok, first, refl)),
+              ),
+            ),
+          ),
+        ),
+      ),
+    ))
+
+pub returns-in-Some-overlap-clause-off : goal.returns-in-Some-overlap-clause-off
+returns-in-Some-overlap-clause-off c =
+    let schedules = c.in_ok-schedules.schedules.schedules.items in
+    let links = c.in_ok-links.links.links.items in
+    let only = c.has_only.ensures.0 c.if-not-has_only.false in
+    let known = subst (All (HasKnownCode schedules)) c.deref.ensures.value (c.in_default.ensures.none schedules c.in_ok-schedules.ensures.codes) in
+    let first = subst (λ (ls : List Link). IsFirstOverlap ls c.in-Some-overlap.cpf) c.deref-2.ensures.value c.in-Some-overlap.ensures.found in
+    inr (inr (
+      (c.in-Ok.program, c.in-Ok.ensures.ok),
+      inr (
+        (schedules, c.in_ok-schedules.ensures.ok),
+        inr (
+          (links, c.in_ok-links.ensures.ok),
+          inr (
+            (c.in_ok-disregards.disregards.items, c.in_ok-disregards.ensures.ok),
+            inr (
+              (links, c.in_ok-includes.includes.items, c.in_ok-links.ensures.ok, c.in_ok-includes.ensures.ok),
+              inr (
+                (links, c.in_ok-absences.absences.items, c.in_ok-links.ensures.ok, c.in_ok-absences.ensures.ok),
+                inr (
+                  only,
+                  inr (
+                    (schedules, links, c.in_ok-schedules.ensures.ok, c.in_ok-links.ensures.ok, known),
+                    inl (links, c.in-Some-overlap.cpf, c.in_ok-links.ensures.ok, first, refl),
+                  ),
+                ),
+              ),
+            ),
+          ),
+        ),
+      ),
+    ))
+
+pub returns-clause-ok : goal.returns-clause-ok
+returns-clause-ok c =
+    let ms = table_view c.args.table.now in
+    let schedules = c.in_ok-schedules.schedules.schedules.items in
+    let links = c.in_ok-links.links.links.items in
+    let same_schedules = sym c.in_ok-rows_of.ensures.ok in
+    let same_links = sym c.in_ok-rows_of-2.ensures.ok in
+    let known = subst (All (HasKnownCode schedules)) c.deref.ensures.value (c.in_default.ensures.none schedules c.in_ok-schedules.ensures.codes) in
+    let apart = subst (AllPairs AreApart) c.deref-2.ensures.value c.in_default-overlap.ensures.none in
+    record {
+      program = c.in-Ok.ensures.ok;
+      schedules = subst (HasSchedules ms) same_schedules c.in_ok-schedules.ensures.ok;
+      links = subst (HasLinks ms) same_links c.in_ok-links.ensures.ok;
+      disregards = subst (HasDisregards ms) (sym c.in_ok-rows_of-3.ensures.ok) c.in_ok-disregards.ensures.ok;
+      includes = subst (λ (ls : List Link). HasIncludes ls ms c.in_ok-rows_of-4.field-0) same_links
+          (subst (HasIncludes links ms) (sym c.in_ok-rows_of-4.ensures.ok) c.in_ok-includes.ensures.ok);
+      absences = subst (λ (ls : List Link). HasAbsences ls ms c.in_ok-rows_of-5.field-0) same_links
+          (subst (HasAbsences links ms) (sym c.in_ok-rows_of-5.ensures.ok) c.in_ok-absences.ensures.ok);
+      known = c.has_only.ensures.0 c.if-not-has_only.false;
+      known_codes = subst (λ (ss : List Schedule). All (HasKnownCode ss) c.in_ok-rows_of-2.field-0) same_schedules
+          (subst (All (HasKnownCode schedules)) same_links known);
+      apart = subst (AllPairs AreApart) same_links apart;
+    }

@@ -1,0 +1,13 @@
+pub mod Fields
+pub mod Rows
+pub mod Program
+pub mod ProgramParts
+pub mod LinkParts
+pub mod Schedule
+pub mod Link
+pub mod Disregard
+pub mod Include
+pub mod Absence
+pub mod Plan
+pub mod Reading
+pub mod Index

@@ -1,0 +1,31 @@
+//! The plan of a treatment: the program, working hours, who works under them, and what is changed by hand, as a file in
+//! TOML says them (`plan.toml`). The reader answers the plan, or the first fault of the file. The texts of the errors are
+//! for people: a fault line has their numbers.
+#![tactic(auto)]
+
+mod absence;
+mod check;
+mod disregard;
+mod fault;
+mod fields;
+mod include;
+mod link;
+mod plan;
+mod program;
+mod rows;
+#[cfg(test)]
+mod rule_tests;
+mod schedule;
+mod table;
+#[cfg(test)]
+mod tests;
+
+pub use absence::Absence;
+pub use disregard::Disregard;
+pub use fault::PlanFault;
+pub use include::Include;
+pub use link::Link;
+pub use plan::{Absences, Disregards, Includes, Links, Plan, Schedules};
+pub use program::Program;
+pub use rows::Rows;
+pub use schedule::{Hours, Schedule};
