@@ -7,3 +7,4 @@ pub mod TableLemmas
 pub mod RangeLemmas
 pub mod PartLemmas
 pub mod PlanLemmas
+pub mod EndLemmas

@@ -11,7 +11,7 @@ use Rattle.tr_plan.specs.Fields.{HasDay, HasTime}
 use Rattle.tr_plan.specs.Rows.{AreRows}
 use Rattle.tr_plan.specs.Program.{IsProgram, IsProgramOf, program_key_text}
 use Rattle.tr_plan.specs.Schedule.{IsSchedule, IsScheduleOf, schedule_key_text}
-use Rattle.tr_plan.specs.Link.{IsLink, IsLinkOf, link_key_text}
+use Rattle.tr_plan.specs.Link.{IsLink, IsLinkOf, HasLinks, BeginsFirst, link_key_text}
 use Rattle.tr_plan.specs.Disregard.{IsDisregard, IsDisregardOf, disregard_key_text}
 use Rattle.tr_plan.specs.Include.{IsInclude, IsIncludeOf, IsSource, SaysSource, include_key_text}
 use Rattle.tr_plan.specs.Absence.{IsAbsence, IsAbsenceOf, SaysMinutes, SaysMovement, AreMinutesFor, IsMovementFor}
@@ -96,6 +96,10 @@ link_in_range earlier row v is = record {
   turn = time_or_in_range row (link_key_text link.Turn) v.turn is.turn;
   esocial = plain_or_in_range 30 row (link_key_text link.Esocial) v.esocial is.esocial;
 }
+
+-- links begin by their last days
+pub links_begin_first : (ms : Members) (links : List Link) → HasLinks ms links → All BeginsFirst links
+links_begin_first ms links has = All-said IsLinkOf BeginsFirst (λ earlier row v is. is.until.1) has.rows links has.said
 
 disregard_in_range : (earlier : List Disregard) (row : Members) (v : Disregard) → IsDisregardOf earlier row v → IsDisregard v
 disregard_in_range earlier row v is = record {

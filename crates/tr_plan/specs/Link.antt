@@ -134,6 +134,10 @@ pub record IsInDates (link : Link) (day : ℕ) : Type 0 where
   pub since : link.since ≤ day
   pub until : day ≤ link.until
 
+-- the last day isn't before the first one
+abbrev pub BeginsFirst : Link → Type 0
+BeginsFirst link = link.since ≤ link.until
+
 -- the two have a day in common
 pub record HaveCommonDay (link other : Link) : Type 0 where
   pub begins : link.since ≤ other.until

@@ -121,7 +121,10 @@ fn plan_of(alloc: Global, table: &Table) -> Result<Plan, PlanFault>
     if let Some(place) = unknown_code(&schedules.codes, &links.links) {
         return Err(PlanFault::UnknownCode { place });
     }
-    if let Some(cpf) = overlap(&links.links) {
+    let Ok(met) = overlap(alloc, &links.links) else {
+        return Err(PlanFault::OutOfMemory);
+    };
+    if let Some(cpf) = met {
         return Err(PlanFault::Overlap { cpf });
     }
     Ok(Plan {

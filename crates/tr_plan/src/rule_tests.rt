@@ -1,6 +1,6 @@
 //! Tables and rules across rows of plan files: each row of a case table has a text and the fault that is told of it.
 use super::*;
-use rep_fields::Cpf;
+use rep_fields::{Cpf, Day};
 use std::alloc::{AllocError, Global};
 use std::test::Fail;
 
@@ -68,7 +68,15 @@ fn field(table: u8, place: u32, key: u8) -> Option<PlanFault> {
 
 #[test]
 fn a_text_that_is_no_toml_document_is_told_apart(rt: HostRuntime) {
-    let cases: [&[u8]; 4] = [b"[program", b"name", b"a = 1\na = 2", b"a = \"\xE7\""];
+    let cases: [&[u8]; 6] = [
+        b"[program",
+        b"name",
+        b"a = 1\na = 2",
+        b"a = \"\xE7\"",
+        // One above and one below the integers.
+        b"[[link]]\nopening = 9223372036854775808",
+        b"[[link]]\nopening = -9223372036854775809",
+    ];
     for text in cases {
         assert_eq!(rt;
             fault_of(rt.alloc(), text),
@@ -138,7 +146,7 @@ fn tables_that_are_no_arrays_and_rows_that_are_no_tables(rt: HostRuntime) -> Res
 
 #[test]
 fn rules_across_rows(rt: HostRuntime) -> Result<(), Fail> {
-    let cases: [(&str, Option<PlanFault>); 16] = [
+    let cases: [(&str, Option<PlanFault>); 21] = [
         ("", None),
         (
             "[[schedule]]\ncode = \"N8  \"\nminutes = 1\ntimes = [\"0000\", \"0001\"]\n",
@@ -154,6 +162,25 @@ fn rules_across_rows(rt: HostRuntime) -> Result<(), Fail> {
         (
             "[[disregard]]\nnsr = 5\nreason = \"R\"\nzebra = 1\n",
             field(4, 2, 0),
+        ),
+        // Of two rows that are off the first is named, whatever their keys.
+        ("[[disregard]]\nnsr = 5\n[[disregard]]\n", field(4, 2, 2)),
+        ("[[disregard]]\n[[disregard]]\nnsr = 5\n", field(4, 2, 1)),
+        // Tables are looked at by number: what stands behind a row in the file is known to it all the same.
+        (
+            "[[include]]\nlink = 999999999\nat = \"2024-01-01T00:00:00+0000\"\nsource = \"T\"\n\
+             [[link]]\nid = 999999999\ncpf = \"52998224725\"\nname = \"J\"\nschedule = \"N8\"\nsince = \"2024-01-01\"\n",
+            None,
+        ),
+        (
+            "[[link]]\nid = 2\ncpf = \"52998224725\"\nname = \"J\"\nschedule = \"N9\"\nsince = \"2024-01-01\"\n\
+             [[schedule]]\ncode = \"N9\"\nminutes = 1\ntimes = [\"0000\", \"0001\"]\n",
+            None,
+        ),
+        // A number that isn't that of the row just before.
+        (
+            "[[disregard]]\nnsr = 5\nreason = \"R\"\n[[disregard]]\nnsr = 4\nreason = \"R\"\n",
+            field(4, 3, 1),
         ),
         ("[[include]]\nlink = 2\nat = \"x\"\n", field(5, 2, 1)),
         (
@@ -275,6 +302,157 @@ fn a_mark_outside_the_dates_of_its_link_is_off(rt: HostRuntime) -> Result<(), Fa
         let link = joined(rt.alloc(), PROGRAM, link, until)?;
         let text = joined(rt.alloc(), &link, rest, "")?;
         assert_eq!(rt; fault_of(rt.alloc(), text.as_bytes()), want, "at {until}");
+    }
+    Ok(())
+}
+
+// A link of one CPF.
+fn link_text(alloc: Global, id: &str, since: &str, until: &str) -> Result<String, AllocError> {
+    let mut text = String::from_str(alloc, "[[link]]\nid = ")?;
+    text.push_str(id)?;
+    text.push_str("\ncpf = \"52998224725\"\nname = \"J\"\nschedule = \"N8\"\nsince = \"")?;
+    text.push_str(since)?;
+    text.push_str("\"\nuntil = \"")?;
+    text.push_str(until)?;
+    text.push_str("\"\n")?;
+    Ok(text)
+}
+
+// The first and last days of three links of one CPF, and whether two of them have a day in common.
+const SPANS: [(&str, &str, &str, &str, &str, &str, bool); 9] = [
+    (
+        "2024-02-01",
+        "2024-02-29",
+        "2024-01-01",
+        "2024-01-31",
+        "2023-12-01",
+        "2023-12-31",
+        false,
+    ),
+    (
+        "2024-01-01",
+        "2024-01-31",
+        "2024-03-01",
+        "2024-03-31",
+        "2024-02-01",
+        "2024-02-29",
+        false,
+    ),
+    (
+        "2024-01-01",
+        "2024-01-31",
+        "2024-03-01",
+        "2024-03-31",
+        "2024-02-01",
+        "2024-03-01",
+        true,
+    ),
+    (
+        "2024-01-01",
+        "2024-01-31",
+        "2024-03-01",
+        "2024-03-31",
+        "2024-01-31",
+        "2024-02-29",
+        true,
+    ),
+    (
+        "2024-01-01",
+        "2024-01-31",
+        "2024-03-01",
+        "2024-03-31",
+        "2023-01-01",
+        "2025-01-01",
+        true,
+    ),
+    (
+        "2023-01-01",
+        "2025-01-01",
+        "2025-03-01",
+        "2025-03-31",
+        "2024-02-01",
+        "2024-02-29",
+        true,
+    ),
+    (
+        "2024-01-01",
+        "2024-01-01",
+        "2024-01-03",
+        "2024-01-03",
+        "2024-01-02",
+        "2024-01-02",
+        false,
+    ),
+    (
+        "2024-01-02",
+        "2024-01-02",
+        "1970-01-01",
+        "2024-01-01",
+        "2024-01-03",
+        "9999-12-31",
+        false,
+    ),
+    (
+        "2024-01-02",
+        "2024-01-02",
+        "2024-01-03",
+        "2024-01-03",
+        "2024-01-02",
+        "2024-01-02",
+        true,
+    ),
+];
+
+#[test]
+fn links_of_one_person_stand_in_any_order(rt: HostRuntime) -> Result<(), Fail> {
+    for (since, until, next, its_last, third, third_last, meets) in SPANS {
+        let mut links = link_text(rt.alloc(), "2", since, until)?;
+        links.push_str(link_text(rt.alloc(), "3", next, its_last)?.as_str())?;
+        links.push_str(link_text(rt.alloc(), "4", third, third_last)?.as_str())?;
+        let text = joined(rt.alloc(), PROGRAM, ROWS, links.as_str())?;
+        let want = if meets {
+            overlap_of(b"52998224725")
+        } else {
+            None
+        };
+        assert_eq!(rt; fault_of(rt.alloc(), text.as_bytes()), want, "at {links}");
+    }
+    Ok(())
+}
+
+#[test]
+fn three_hundred_links_of_one_person(rt: HostRuntime) -> Result<(), Fail> {
+    let mut text = joined(rt.alloc(), PROGRAM, ROWS, "")?;
+    for number in 0..300u32 {
+        let id = format!(in rt.alloc(); "{}", number + 2)?;
+        let day = Day { number }.write();
+        let day = str::from_utf8(&day)?;
+        text.push_str(link_text(rt.alloc(), id.as_str(), day, day)?.as_str())?;
+    }
+    let plan = Plan::read(rt.alloc(), text.as_bytes())?;
+    assert_eq!(rt; plan.links.len(), 301);
+    assert_eq!(rt; plan.links.get(300).until.number, 299);
+    text.push_str(link_text(rt.alloc(), "302", "1970-06-01", "1970-06-01")?.as_str())?;
+    assert_eq!(rt;
+        fault_of(rt.alloc(), text.as_bytes()),
+        overlap_of(b"52998224725")
+    );
+    Ok(())
+}
+
+#[test]
+fn the_maker_has_a_cpf_where_its_kind_is_2(rt: HostRuntime) -> Result<(), Fail> {
+    let front = "[program]\nname = \"T\"\nversion = \"1\"\ndeveloper_kind = ";
+    let back = "developer_name = \"A\"\nemail = \"a@b\"\noffset = \"+0000\"\n";
+    let cases: [(&str, Option<PlanFault>); 4] = [
+        ("2\ndeveloper = \"11144477735\"\n", None),
+        ("2\ndeveloper = \"11222333000181\"\n", field(1, 0, 4)),
+        ("1\ndeveloper = \"11222333000181\"\n", None),
+        ("3\ndeveloper = \"x\"\n", field(1, 0, 3)),
+    ];
+    for (maker, want) in cases {
+        let text = joined(rt.alloc(), front, maker, back)?;
+        assert_eq!(rt; fault_of(rt.alloc(), text.as_bytes()), want, "at {maker}");
     }
     Ok(())
 }

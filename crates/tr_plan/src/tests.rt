@@ -173,7 +173,7 @@ fn fault_of(alloc: Global, text: &[u8]) -> Option<PlanFault> {
 
 #[test]
 fn a_program_is_off_at_its_key(rt: HostRuntime) -> Result<(), Fail> {
-    let cases: [(u8, u8, &str); 60] = [
+    let cases: [(u8, u8, &str); 61] = [
         (1, 1, ""),
         (1, 2, ""),
         (1, 3, ""),
@@ -230,6 +230,7 @@ fn a_program_is_off_at_its_key(rt: HostRuntime) -> Result<(), Fail> {
         (1, 4, "developer = 1"),
         (1, 7, "offset = \"-0000\""),
         (1, 7, "offset = \"+1401\""),
+        (1, 7, "offset = \"-1401\""),
         (1, 7, "offset = \"-0300 \""),
         (1, 7, "offset = -180"),
         (1, 8, "rep_kind = 0"),
@@ -298,7 +299,7 @@ fn a_schedule_is_off_at_its_key(rt: HostRuntime) -> Result<(), Fail> {
 
 #[test]
 fn a_link_is_off_at_its_key(rt: HostRuntime) -> Result<(), Fail> {
-    let cases: [(u8, u8, &str); 47] = [
+    let cases: [(u8, u8, &str); 49] = [
         (3, 1, ""),
         (3, 2, ""),
         (3, 3, ""),
@@ -337,9 +338,11 @@ fn a_link_is_off_at_its_key(rt: HostRuntime) -> Result<(), Fail> {
         (3, 6, "until = \"2023-12-31\""),
         (3, 6, "until = \"2024-13-01\""),
         (3, 6, "until = \"\""),
+        (3, 6, "until = \"2024-12-31 \""),
         (3, 6, "until = 1"),
         (3, 7, "turn = \"2400\""),
         (3, 7, "turn = \"12:00\""),
+        (3, 7, "turn = \"1200 \""),
         (3, 7, "turn = 1200"),
         (3, 7, "turn = \"\""),
         (3, 8, "esocial = \"AAAAAAAAAAAAAAAAAAAAAAAAAAAAAAA\""),
@@ -393,16 +396,18 @@ fn a_disregard_is_off_at_its_key(rt: HostRuntime) -> Result<(), Fail> {
 
 #[test]
 fn an_included_mark_is_off_at_its_key(rt: HostRuntime) -> Result<(), Fail> {
-    let cases: [(u8, u8, &str); 26] = [
+    let cases: [(u8, u8, &str); 28] = [
         (5, 1, ""),
         (5, 2, ""),
         (5, 1, "link = 8"),
         (5, 1, "link = 0"),
         (5, 1, "link = \"7\""),
+        (5, 1, "link = 1000000000"),
         (5, 1, "link = 4294967303"),
         (5, 2, "at = \"2024-03-05T06:00:30-0300\""),
         (5, 2, "at = \"2024-03-05T06:00:00-0000\""),
         (5, 2, "at = 2024-03-05T06:00:00-03:00"),
+        (5, 2, "at = \"2024-03-05T06:00:00-0300 \""),
         (5, 2, "at = \"2023-12-31T23:59:00-0300\""),
         (5, 2, "at = \"2024-01-01T11:59:00-0300\""),
         (5, 2, "at = \"2025-01-01T12:00:00-0300\""),
@@ -436,19 +441,21 @@ fn an_included_mark_is_off_at_its_key(rt: HostRuntime) -> Result<(), Fail> {
 
 #[test]
 fn an_absence_is_off_at_its_key(rt: HostRuntime) -> Result<(), Fail> {
-    let cases: [(u8, u8, &str); 21] = [
+    let cases: [(u8, u8, &str); 23] = [
         (6, 1, ""),
         (6, 2, ""),
         (6, 3, ""),
         (6, 1, "link = 8"),
         (6, 1, "link = 0"),
         (6, 1, "link = \"7\""),
+        (6, 1, "link = 1000000000"),
         (6, 2, "kind = 0"),
         (6, 2, "kind = 5"),
         (6, 2, "kind = \"3\""),
         (6, 3, "date = \"2024-02-30\""),
         (6, 3, "date = 2024-03-04"),
         (6, 3, "date = \"\""),
+        (6, 3, "date = \"2024-03-04 \""),
         (6, 4, "minutes = -1"),
         (6, 4, "minutes = 100000"),
         (6, 4, "minutes = \"60\""),
@@ -470,7 +477,7 @@ fn an_absence_is_off_at_its_key(rt: HostRuntime) -> Result<(), Fail> {
 
 #[test]
 fn values_at_the_ends_of_their_ranges_are_taken(rt: HostRuntime) -> Result<(), Fail> {
-    let cases: [(u8, u8, &str); 62] = [
+    let cases: [(u8, u8, &str); 63] = [
         (
             1,
             1,
@@ -496,6 +503,7 @@ fn values_at_the_ends_of_their_ranges_are_taken(rt: HostRuntime) -> Result<(), F
         (1, 6, "email = \"B   \""),
         (1, 6, "email = \"\u{e7}\""),
         (1, 7, "offset = \"+1400\""),
+        (1, 7, "offset = \"-1400\""),
         (1, 8, "rep_kind = 1"),
         (1, 8, "rep_kind = 3"),
         (1, 8, ""),

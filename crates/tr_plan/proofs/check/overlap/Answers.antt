@@ -1,48 +1,45 @@
-use Rattle.std.proofs.Common.{◌≡◌, get_or, take, All, sym, ap, ◌∙◌, subst}
-use Rattle.std.specs.Prelude.{AllPairs}
-use Rattle.std.proofs.lemmas.Bool.{false≢true}
-use Rattle.std.proofs.lemmas.List.{get_or_default, take_all, take_more}
-use Rattle.std.proofs.lemmas.List.Elements.{All-more}
+use Rattle.std.proofs.Common.{◌≡◌, [], ◌∷◌, ◌++◌, get_or, take, All, Some, sym, ap, ◌∙◌, subst}
+use Rattle.std.specs.Prelude.{Any, AllPairs}
+use Rattle.std.specs.BTreeMap as tree
+use Rattle.std.proofs.lemmas.List.{get_or_default, take_more}
+use Rattle.std.proofs.lemmas.List.Elements.{All-take}
 use Rattle.std.proofs.lemmas.List.Quantifiers.{all_pairs_push}
+use Rattle.tr_plan.specs.Index.{HasEnds, day_cmp}
+use Rattle.tr_plan.specs.Link.{BeginsFirst}
 use Rattle.tr_plan.specs.Plan.{AreApart, DoOverlap}
-use Rattle.tr_plan.proofs.IndexLemmas.{Any-at}
+use Rattle.tr_plan.specs.declared.link.Link.{Link}
+use Rattle.tr_plan.proofs.EndLemmas.{HasEnds-more}
 use Rattle.tr_plan.proofs.check.overlap.Goals as goal
 
-pub returns-then-do_overlap-clause-found : goal.returns-then-do_overlap-clause-found
-returns-then-do_overlap-clause-found c =
+pub returns-then-meets_earlier-clause-found : goal.returns-then-meets_earlier-clause-found
+returns-then-meets_earlier-clause-found c =
     let links = c.args.links.now in
-    let at = c.loop-i.i in
-    let within = c.loop-i-test.true in
-    let met = c.do_overlap.ensures.0 c.if-do_overlap.true in
+    let at = c.loop-link.link-index in
+    let within = c.loop-link-test.true in
+    let this : (link : Link) → c.link-item.result ≡ get_or links at link = λ link. c.link-item.is ∙ get_or_default links at c.link-item.result link within in
+    let met = c.meets_earlier.ensures.met c.if-meets_earlier.true (take at links) c.loop-link.invariant.ends in
     record {
       at = at;
       within = within;
-      of = λ link. ap (λ l. l.cpf) (get_or_default links at link c.index-links-i-then-do_overlap.result within);
-      meets = λ link.
-          let this : c.index-links-i.result ≡ get_or links at link = c.index-links-i.is ∙ get_or_default links at c.index-links-i.result link within in
-          Any-at (λ earlier. DoOverlap earlier (get_or links at link)) (take at links) c.loop-earlier.earlier-index c.earlier-item.result c.loop-earlier-test.true
-          (subst (λ other. DoOverlap (get_or (take at links) c.loop-earlier.earlier-index c.earlier-item.result) other) this
-          (subst (λ earlier. DoOverlap earlier c.index-links-i.result) c.earlier-item.is met));
-      earlier = c.loop-i.invariant;
+      of = λ link. ap (λ l. l.cpf) (sym (this link));
+      meets = λ link. subst (λ l. Any (λ earlier. DoOverlap earlier l) (take at links)) (this link) met;
+      earlier = c.loop-link.invariant.apart;
     }
 
-pub loop-earlier-preserved : goal.loop-earlier-preserved
-loop-earlier-preserved c = λ link.
+pub loop-link-preserved : goal.loop-link-preserved
+loop-link-preserved c =
     let links = c.args.links.now in
-    let at = c.loop-i.i in
-    let this : get_or links at link ≡ c.index-links-i.result =
-    get_or_default links at link c.index-links-i.result c.loop-i-test.true ∙ sym c.index-links-i.is in
-    All-more (λ earlier. AreApart earlier (get_or links at link)) (take at links) c.loop-earlier.earlier-index c.earlier-item.result c.loop-earlier-test.true
-    (c.loop-earlier.invariant link)
-    (λ met. false≢true (sym c.if-do_overlap.false ∙ c.do_overlap.ensures.1
-    (subst (λ other. DoOverlap c.earlier-item.result other) this
-    (subst (λ earlier. DoOverlap earlier (get_or links at link)) (sym c.earlier-item.is) met))))
-
-pub loop-i-preserved : goal.loop-i-preserved
-loop-i-preserved c = λ i j d less within.
-    let links = c.args.links.now in
-    let at = c.loop-i.i in
-    let all : take c.loop-earlier.earlier-index (take at links) ≡ take at links = take_all c.loop-earlier.earlier-index (take at links) c.loop-earlier-test.false in
-    let apart = all_pairs_push AreApart (take at links) (get_or links at d) c.loop-i.invariant
-    (λ k e there. (subst (λ front. All (λ earlier. AreApart earlier (get_or links at d)) front) all (c.loop-earlier.invariant d)) k e there) in
-    (subst (AllPairs AreApart) (sym (take_more links at d c.loop-i-test.true)) apart) i j d less within
+    let at = c.loop-link.link-index in
+    let within = c.loop-link-test.true in
+    let link = c.link-item.result in
+    let firsts : All BeginsFirst links = c.requires.in_order in
+    let earlier_firsts = All-take BeginsFirst at links firsts in
+    let first : BeginsFirst link = subst BeginsFirst (sym c.link-item.is) (firsts at link within) in
+    let apart = c.meets_earlier.ensures.apart c.if-meets_earlier.false (take at links) c.loop-link.invariant.ends earlier_firsts c.loop-link.invariant.apart in
+    let updates = subst (λ (l : Link). tree.Updates day_cmp c.loop-link.ends c.insert.new.self (l.cpf, l.since) (Some l.until)) c.link.view_is c.in-Ok.ensures.updates in
+    let more = sym (take_more links at link within ∙ ap (λ l. take at links ++ l ∷ []) (sym c.link-item.is)) in
+    record {
+      ends = subst (HasEnds c.insert.new.self) more
+          (HasEnds-more c.loop-link.ends c.insert.new.self (take at links) link c.loop-link.invariant.ends earlier_firsts first apart updates);
+      apart = subst (AllPairs AreApart) more (all_pairs_push AreApart (take at links) link c.loop-link.invariant.apart apart);
+    }

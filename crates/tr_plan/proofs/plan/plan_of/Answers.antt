@@ -1,8 +1,8 @@
 use Rattle.std.proofs.Common.{List, All, inl, inr, refl, sym, ap, subst, arith, length}
-use Rattle.std.specs.Prelude.{AllPairs}
+use Rattle.std.specs.Prelude.{AllPairs, IfSome, IfNone}
 use Rattle.toml.specs.View.{table_view}
 use Rattle.tr_plan.specs.Schedule.{HasSchedules}
-use Rattle.tr_plan.specs.Link.{HasLinks}
+use Rattle.tr_plan.specs.Link.{HasLinks, BeginsFirst}
 use Rattle.tr_plan.specs.Disregard.{HasDisregards}
 use Rattle.tr_plan.specs.Include.{HasIncludes}
 use Rattle.tr_plan.specs.Absence.{HasAbsences}
@@ -10,10 +10,17 @@ use Rattle.tr_plan.specs.Plan.{HasKnownCode, AreApart}
 use Rattle.tr_plan.specs.Reading.{IsFirstUnknownCode, IsFirstOverlap}
 use Rattle.tr_plan.specs.declared.link.Link.{Link}
 use Rattle.tr_plan.specs.declared.schedule.Schedule.{Schedule}
+use Rattle.tr_plan.proofs.RangeLemmas.{links_begin_first}
 use Rattle.tr_plan.proofs.plan.plan_of.Goals as goal
 
 pub unknown_code-requires : goal.unknown_code-requires
 unknown_code-requires c = record { few = omega (arith, ap length c.deref.ensures.value, c.in_ok-links.ensures.few) }
+
+pub overlap-requires : goal.overlap-requires
+overlap-requires c = record {
+  in_order = subst (All BeginsFirst) (sym c.deref-2.ensures.value)
+      (links_begin_first (table_view c.args.table.now) c.in_ok-links.links.links.items c.in_ok-links.ensures.ok);
+}
 
 pub returns-in-Some-clause-off : goal.returns-in-Some-clause-off
 returns-in-Some-clause-off c =
@@ -42,13 +49,14 @@ returns-in-Some-clause-off c =
       ),
     ))
 
-pub returns-in-Some-overlap-clause-off : goal.returns-in-Some-overlap-clause-off
-returns-in-Some-overlap-clause-off c =
+pub returns-in-Some-met-clause-off : goal.returns-in-Some-met-clause-off
+returns-in-Some-met-clause-off c =
     let schedules = c.in_ok-schedules.schedules.schedules.items in
     let links = c.in_ok-links.links.links.items in
     let only = c.has_only.ensures.0 c.if-not-has_only.false in
     let known = subst (All (HasKnownCode schedules)) c.deref.ensures.value (c.in_default.ensures.none schedules c.in_ok-schedules.ensures.codes) in
-    let first = subst (λ (ls : List Link). IsFirstOverlap ls c.in-Some-overlap.cpf) c.deref-2.ensures.value c.in-Some-overlap.ensures.found in
+    let first = subst (λ (ls : List Link). IsFirstOverlap ls c.in-Some-met.cpf) c.deref-2.ensures.value
+    (subst (λ met. IfSome met (IsFirstOverlap c.deref-2.result.now)) c.in-Some-met.is c.in-Ok-overlap.ensures.found) in
     inr (inr (
       (c.in-Ok.program, c.in-Ok.ensures.ok),
       inr (
@@ -65,7 +73,7 @@ returns-in-Some-overlap-clause-off c =
                   only,
                   inr (
                     (schedules, links, c.in_ok-schedules.ensures.ok, c.in_ok-links.ensures.ok, known),
-                    inl (links, c.in-Some-overlap.cpf, c.in_ok-links.ensures.ok, first, refl),
+                    inl (links, c.in-Some-met.cpf, c.in_ok-links.ensures.ok, first, refl),
                   ),
                 ),
               ),
@@ -83,7 +91,8 @@ returns-clause-ok c =
     let same_schedules = sym c.in_ok-rows_of.ensures.ok in
     let same_links = sym c.in_ok-rows_of-2.ensures.ok in
     let known = subst (All (HasKnownCode schedules)) c.deref.ensures.value (c.in_default.ensures.none schedules c.in_ok-schedules.ensures.codes) in
-    let apart = subst (AllPairs AreApart) c.deref-2.ensures.value c.in_default-overlap.ensures.none in
+    let apart = subst (AllPairs AreApart) c.deref-2.ensures.value
+    (subst (λ met. IfNone met (AllPairs AreApart c.deref-2.result.now)) c.in_default-met.is c.in-Ok-overlap.ensures.none) in
     record {
       program = c.in-Ok.ensures.ok;
       schedules = subst (HasSchedules ms) same_schedules c.in_ok-schedules.ensures.ok;
