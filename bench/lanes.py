@@ -1,5 +1,7 @@
 """Lanes and a site for the scripts that try the real program. The CPFs are made up and have their check digits."""
 
+import random
+
 
 def cpf(nine):
     """The nine digits with their two check digits."""
@@ -38,6 +40,16 @@ def both(included, clocked, origin=9):
     """An operator's lane that includes employees and then clocks them."""
     marks = clockings(clocked, included, origin, included + 1).split("\n", 1)[1]
     return inclusions(included, origin) + marks
+
+
+def resent(count, of, seed, origin=1):
+    """A collector's lane of so many clockings, behind each of which one of those so far, any of them, is sent again."""
+    marks = clockings(count, of, origin).split("\n")[1:-1]
+    again = random.Random(seed)
+    lines = [f"L|{origin}|01"]
+    for k, mark in enumerate(marks):
+        lines += [mark, marks[again.randint(0, k)]]
+    return "\n".join(lines) + "\n"
 
 
 SITE = """employer_kind = 1

@@ -1,6 +1,7 @@
 #!/usr/bin/env bash
 # Kills the real program by SIGKILL at random moments of a run, opens the journal again by running the same lane, and looks
-# whether what was receipted before the kill stands. The moments come from a fixed seed.
+# whether what was receipted before the kill stands, and whether the bytes of the records before it are unchanged. The lane has lines that
+# are sent again, exclusions, and extractions where the program takes them. The moments come from a fixed seed.
 #
 # usage: tests-real/kill.sh [PROGRAM]
 #

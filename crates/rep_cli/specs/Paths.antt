@@ -2,7 +2,7 @@
 use Rattle.std.specs.Prelude.{ℕ, List, [], ◌∷◌, ◌++◌, get_or, codes, Option, None, Some}
 use Rattle.rep_words.specs.Words.{Asks}
 use Rattle.rep_words.specs.declared.words.Asked.{Asked}
-use Rattle.rep_words.specs.declared.words.Asked.TheVariants.{Print, Create, Run}
+use Rattle.rep_words.specs.declared.words.Asked.TheVariants.{Print, Create, Run, Extract, Receipt}
 
 -- the word at a place, counted from 0
 abbrev pub word_at : List (List ℕ) → ℕ → List ℕ
@@ -13,15 +13,21 @@ abbrev pub text_paths : (words : List (List ℕ)) → (asked : Asked) → Asks w
 text_paths words (Print zone) print = print.lane ∷ []
 text_paths words Create create = create.site ∷ []
 text_paths words Run run = run.site ∷ run.lane ∷ []
+text_paths words (Extract period) extract = extract.site ∷ []
+text_paths words (Receipt nsr) receipt = receipt.site ∷ []
 
 -- the paths of the files that are written: the replies to a lane stand beside it
 abbrev pub out_paths : (words : List (List ℕ)) → (asked : Asked) → Asks words asked → List (List ℕ)
 out_paths words (Print zone) print = print.out ∷ []
 out_paths words Create create = []
 out_paths words Run run = (run.lane ++ codes ".out") ∷ []
+out_paths words (Extract period) extract = extract.out ∷ []
+out_paths words (Receipt nsr) receipt = []
 
 -- the path of the journal
 abbrev pub disk_path : (words : List (List ℕ)) → (asked : Asked) → Asks words asked → Option (List ℕ)
 disk_path words (Print zone) print = None
 disk_path words Create create = Some create.journal
 disk_path words Run run = Some run.journal
+disk_path words (Extract period) extract = Some extract.journal
+disk_path words (Receipt nsr) receipt = Some receipt.journal

@@ -21,29 +21,37 @@ rep - a recorder of working time whose AFD is proved (REP-P, Portaria MTP 671/20
 usage: rep print LANE OUT ZONE
        rep create SITE JOURNAL
        rep run SITE JOURNAL LANE
+       rep extract SITE JOURNAL FROM TO OUT
+       rep receipt SITE JOURNAL NSR
        rep --help
        rep --version
 
 print   answers the lines of one lane over an empty history and writes its AFD. Nothing is kept.
 create  makes a journal whose first record is the employer of the site.
 run     answers the lines of one lane over the journal, which keeps what they record.
+extract writes the AFD of a period out of the journal.
+receipt writes the receipt of a clocking to standard output.
 
   LANE     the file of a lane: its first line is the head L|ORIGIN|KIND, each line after it a request.
            print wants an operator's lane, of kind 00, that begins with the employer (E|..)
   OUT      the file that the AFD is written to. An older file stays where no AFD is written
+  FROM TO  the first and the last day of the period, as 2024-03-04
+  NSR      the number of the clocking's record
   ZONE     the offset of the recorder's clock from UTC: a sign and four digits, as -0300
   SITE     the file of the site, in TOML: the employer, the recorder, the offset of its clock
   JOURNAL  the file of the journal. One program at a time works on it
 
-A line is answered by a receipt (R|..) or a refusal (N|..): print writes the answers to standard output,
-run to a file beside the lane's, whose name is LANE with .out behind it. Standard output gets the
-counts (RUN|..) or CREATED|1, and then, where the status is 2 or more, a line that tells it
-(FAULT|STATUS|..). docs/formats.md and docs/journal-format.md explain the files and these lines.
+A line is answered by a receipt (R|..), a refusal (N|..) or an extraction (F|.., with the AFD behind
+it): print writes the answers to standard output, run to a file beside the lane's, whose name is LANE
+with .out behind it. Standard output gets the counts (RUN|.., EXTRACT|..), CREATED|1 or the receipt,
+and then, where the status is 2 or more, a line that tells it (FAULT|STATUS|..). docs/formats.md and
+docs/journal-format.md explain the files and these lines.
 
 status   0  all was done
          1  all was done, and some request was refused
          2  the words are those of no command
-         3  a text was refused: FAULT|3|SITE|KEY or FAULT|3|LANE|1|LINE
+         3  a text, the dates or the number was refused: FAULT|3|SITE|KEY, FAULT|3|LANE|1|LINE,
+            FAULT|3|DATES, FAULT|3|NOSUCHNSR|NSR or FAULT|3|NOTACLOCKING|NSR
          4  a file couldn't be read
          5  a file or standard output couldn't be written
          6  the journal's file failed, or another program works on it
@@ -54,6 +62,7 @@ status   0  all was done
 
 example: rep create site.toml acme.journal
          rep run site.toml acme.journal workers.lane
+         rep extract site.toml acme.journal 2024-03-01 2024-03-31 march.afd
 ";
 
 /// What the program tells of itself.
@@ -104,7 +113,9 @@ fn notice_of(word: &str) -> Option<Notice>
 /// ask for none; then nothing is written.
 pub fn answer_notice<K: Sink>(out: &mut K, words: &[String]) -> Option<u8>
     ensures none { result ≡ None → (notice : Notice) → map string_bytes words.now ≡ notice_word notice ∷ [] → ⊥ }
+    ensures untouched { result ≡ None → out.new ≡ out.old }
     ensures status { IfSome result (λ status. (status ≡ DONE) ⊎ (status ≡ SINK_FAULT)) }
+    ensures fault { result ≡ Some SINK_FAULT → Rose (K.faults out.old) (K.faults out.new) }
     ensures asked { IsSome result → (notice : Notice) × (map string_bytes words.now ≡ notice_word notice ∷ []) }
     ensures help { map string_bytes words.now ≡ notice_word Notice.Help ∷ [] → result ≡ Some DONE
         → K.written out.new ≡ append_known (K.written out.old) HELP.now }

@@ -8,3 +8,7 @@ pub mod Payloads
 pub mod Hashes
 pub mod Standing
 pub mod Validity
+pub mod Pairs
+pub mod Places
+pub mod Rows
+pub mod Indexes

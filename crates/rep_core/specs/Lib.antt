@@ -7,3 +7,5 @@ pub mod Answered
 pub mod Valid
 pub mod Core
 pub mod Hashes
+pub mod Numbers
+pub mod Index

@@ -18,9 +18,13 @@
 //! Only `reserve` takes memory. After it, `line` gives the line of the record that `accept` will add.
 #![tactic(auto)]
 
+mod index;
 mod laws;
+mod numbers;
+mod origins;
 mod recorder;
 mod registration;
+mod row;
 mod search;
 #[cfg(test)]
 mod tests;

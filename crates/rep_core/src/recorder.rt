@@ -7,8 +7,9 @@ ghost use Rattle.rep_wire.specs.declared.request.Entry.{Entry};
 ghost use Rattle.rep_core.specs.Answered.{marked_in};
 ghost use Rattle.rep_core.specs.Hashes.{linked};
 
+use crate::index::Index;
 use crate::registration::{is_known, may_be};
-use crate::search::{behind_last_employer, first_by_pair, last_worker};
+use crate::search::worker_in;
 use crate::verdict::{Verdict, WorkerState};
 use afd_chain::link;
 use afd_records::{AfdLine, Body, print, recorded, stem};
@@ -18,11 +19,12 @@ use rep_wire::{Answer, Ask, Code, Entry, Reply, Request, Slip, made, same};
 use std::alloc::Global;
 use std::marker::Model;
 
-/// The recorder's core: the history so far, and the limit of its numbers. In this form it keeps the plain list of
-/// entries, and every look-up is a search through it.
+/// The recorder's core: the history so far, and the limit of its numbers. It keeps the list of entries, and beside it the
+/// numbers that look-ups ask for.
 #[derive(Drop)]
 pub struct Core {
     entries: Vec<Entry>,
+    index: Index,
     // the hash of each entry that is a clocking
     hashes: Vec<Option<[u8; 64]>>,
     // the hash of the last clocking
@@ -34,21 +36,23 @@ impl Model for Core {
     ghost use Rattle.std.specs.Prelude.{◌-◌, min, vec_len, vec_capacity};
     ghost use Rattle.rep_core.specs.Core.{Kept, IsLimit};
     ghost use Rattle.rep_core.specs.Hashes.{IsInStep};
+    ghost use Rattle.rep_core.specs.Index.{IsIndexOf, rooms_of};
 
     ghost Value = { Kept };
 
     ghost view = { λ c. record {
       entries = c.entries.items;
       limit = c.limit;
-      room = min (vec_capacity c.entries - vec_len c.entries) (vec_capacity c.hashes - vec_len c.hashes);
+      room = min (vec_capacity c.entries - vec_len c.entries) (min (vec_capacity c.hashes - vec_len c.hashes) c.index.workers.room);
+      rooms = rooms_of c.index.origins;
     } };
 
-    ghost invariant = { λ c. IsLimit c.limit × IsInStep c.entries.items c.hashes.items c.tip };
+    ghost invariant = { λ c. IsLimit c.limit × IsInStep c.entries.items c.hashes.items c.tip × IsIndexOf c.index c.entries.items };
 }
 
 #[tactic(auto, unfolding(crate::specs::Core::Stands, crate::specs::Core::IsReady))]
 impl Core {
-    ghost use Rattle.rep_core.specs.Core.{Kept, Stands, IsLimit, IsReady};
+    ghost use Rattle.rep_core.specs.Core.{Kept, Stands, IsLimit, IsReady, room_of};
     ghost use Rattle.rep_core.specs.History.{IsNumbered, IsNew, last_worker};
     ghost use Rattle.rep_core.specs.Lookup.{FindsPair, KeepsPair, FindsEmployer};
     ghost use Rattle.rep_core.specs.Chained.{last_hash, next_line, history_lines};
@@ -64,6 +68,7 @@ impl Core {
     {
         Core {
             entries: Vec::new(alloc),
+            index: Index::new(alloc),
             hashes: Vec::new(alloc),
             tip: None,
             limit: last_nsr,
@@ -76,6 +81,7 @@ impl Core {
         ensures same { (h : List Entry) → Stands self.old h ↔ Stands self.new h }
         ensures limit { self.new.limit ≡ last_nsr }
         ensures room { self.new.room ≡ self.old.room }
+        ensures rooms { self.new.rooms ≡ self.old.rooms }
     {
         self.limit = last_nsr;
     }
@@ -100,27 +106,24 @@ impl Core {
     pub fn employer(&self) -> Option<u32>
         ensures { (h : List Entry) → Stands self.now h → FindsEmployer h result }
     {
-        let Some(behind) = behind_last_employer(&self.entries) else {
-            return None;
-        };
-        Some((self.entries.len() - behind) as u32)
+        self.index.employer
     }
 
     /// The number of the entry that came by the pair, or `None` where none did.
     pub fn find(&self, origin: u16, seq: u64) -> Option<u32>
         ensures { (h : List Entry) → Stands self.now h → FindsPair origin seq h result }
     {
-        let Some(place) = first_by_pair(&self.entries, origin, seq) else {
-            return None;
-        };
-        Some(place as u32 + 1)
+        self.index.origins.get(origin, seq)
     }
 
     /// What the worker's last registration record says, or `None` where there is none.
     pub fn worker(&self, cpf: Cpf) -> Option<WorkerState>
         ensures { (h : List Entry) → Stands self.now h → result ≡ last_worker cpf h }
     {
-        last_worker(&self.entries, cpf)
+        let Some(nsr) = self.index.workers.get(cpf.number) else {
+            return None;
+        };
+        worker_in(cpf, &self.entries[nsr as usize - 1].body)
     }
 
     /// The entry with this number, from 1 to the count.
@@ -202,24 +205,27 @@ impl Core {
     pub fn ready(&self, q: &Request) -> bool
         ensures { IsTrue result ↔ IsReady self.now q.now }
     {
-        let _q = q;
-        self.entries.len() < self.entries.capacity() && self.hashes.len() < self.hashes.capacity()
+        self.entries.len() < self.entries.capacity()
+            && self.hashes.len() < self.hashes.capacity()
+            && self.index.has_room(q.origin)
     }
 
-    /// Takes the memory that recording the request needs. The history and the limit stay.
+    /// Takes the memory that recording the request needs. The history and the limit stay, and no origin has less room than
+    /// before.
     ///
     /// # Errors
     ///
-    /// `OutOfMemory` where there isn't enough. Then there is no less room than before.
+    /// `OutOfMemory` where there isn't enough. Then there is no less room for entries than before.
     pub fn reserve(&mut self, q: &Request) -> Result<(), OutOfMemory>
         ensures same { (h : List Entry) → Stands self.old h ↔ Stands self.new h }
         ensures limit { self.new.limit ≡ self.old.limit }
         ensures ready { OnOk result (IsReady self.new q.now) }
         ensures room { OnErr result (self.old.room ≤ self.new.room) }
+        ensures rooms { (origin : ℕ) → room_of self.old.rooms origin ≤ room_of self.new.rooms origin }
     {
-        let _q = q;
         self.entries.reserve(1)?;
         self.hashes.reserve(1)?;
+        self.index.reserve(q.origin)?;
         Ok(())
     }
 
@@ -246,14 +252,17 @@ impl Core {
     // One entry more.
     fn append(&mut self, entry: Entry)
         requires room { 1 ≤ self.old.room }
+        requires room_of { 1 ≤ room_of self.old.rooms entry.origin }
         requires number { length self.old.entries < self.old.limit }
+        requires new { IsNew entry.origin entry.seq self.old.entries }
         requires text { HasText entry.body }
         ensures entries { self.new.entries ≡ self.old.entries ++ entry ∷ [] }
         ensures limit { self.new.limit ≡ self.old.limit }
-        ensures room { self.new.room + 1 ≡ self.old.room }
+        ensures room { self.old.room ≤ self.new.room + 1 }
     {
         // The prover finds the types inside of what is pushed only where the function names them.
         let _inside: Option<EmployerId> = None;
+        self.index.note(&entry, self.entries.len() as u32 + 1);
         self.entries.push_reserved(entry);
         let count = self.entries.len();
         let hash = hash_of(

@@ -1,5 +1,5 @@
 -- the replies to lines that are served, over fronts of the history
-use Rattle.std.proofs.Common.{◌≡◌, ℕ, ℤ, suc, ◌+◌, ◌≤◌, inl, inr, List, [], ◌∷◌, length, take, sym, ap, subst, ◌∙◌, length-append, arith}
+use Rattle.std.proofs.Common.{◌≡◌, ℕ, suc, ◌+◌, ◌≤◌, inl, inr, List, [], ◌∷◌, length, take, sym, ap, subst, ◌∙◌, length-append, arith}
 use Rattle.std.proofs.Math.Seq.{take-append_seam}
 use Rattle.rep_wire.specs.declared.head.LaneHead.{LaneHead}
 use Rattle.rep_wire.specs.declared.request.Request.{Request}
@@ -7,19 +7,18 @@ use Rattle.rep_wire.specs.declared.request.Entry.{Entry}
 use Rattle.rep_wire.specs.declared.reply.Slip.{Slip}
 use Rattle.rep_wire.specs.declared.reply.Answer.{Answer}
 use Rattle.rep_wire.specs.declared.reply.Answer.TheVariants.{Receipt, Refused}
+use Rattle.rep_wire.specs.declared.reply.Reply.{Reply}
 use Rattle.rep_core.specs.History.{IsNumbered}
 use Rattle.rep_core.specs.Answered.{IsAnswer}
-use Rattle.rep_wire.specs.declared.reply.Reply.{Reply}
-use Rattle.rep_lane.specs.Answers.{Answered}
+use Rattle.rep_lane.specs.Answers.{LineAnswer, replied, extracted}
 use Rattle.rep_lane.specs.Desk.{malformed_reply}
-use Rattle.rep_lane.specs.Serving.{ServesLine, ServesLines}
-use Rattle.rep_lane.specs.Fronts.{IsReplyTo, IsUpTo, IsFrontReply, AreFrontReplies}
+use Rattle.rep_lane.specs.Serving.{Rules, ServesLine, ServesLines}
+use Rattle.rep_lane.specs.Fronts.{front_of, IsUpTo, IsAnswerOver, AreFrontReplies}
 use Rattle.rep_lane.proofs.ServingLemmas.{GoesOn, ServesLine-goes_on, ServesLines-goes_on}
 
 -- the first entries of a history that goes on
-front_of : (h after : List Entry) (n : ℕ) → GoesOn h after → n ≡ length h → take n after ≡ h
-front_of h after n on is =
-    ap (λ (k : ℕ). take k after) is ∙ ap (take (length h)) on.1 ∙ take-append_seam h on.0
+first_of : (h after : List Entry) → GoesOn h after → take (length h) after ≡ h
+first_of h after on = ap (take (length h)) on.1 ∙ take-append_seam h on.0
 
 no_shorter : (h after : List Entry) → GoesOn h after → length h ≤ length after
 no_shorter h after on =
@@ -41,44 +40,58 @@ up_to_asked limit h q (Receipt slip) front is t =
     (omega arith, omega arith)
 up_to_asked limit h q (Refused code) front is t = tt
 
-module _ (limit : ℕ) (offset : ℤ) (head : LaneHead) (h : List Entry) (line given : List ℕ) (a : Answered) (middle after : List Entry) (on : GoesOn middle after) where
-  front_is : ServesLine limit offset head h line given a middle → a.reply.front ≡ length middle
-  front_is (inl t) = t.served.replies.front
-  front_is (inr t) = ap (λ (r : Reply). r.front) t.reply ∙ ap length (sym t.same)
-
-  replied_so : (s : ServesLine limit offset head h line given a middle) → IsReplyTo limit head middle line a
-  replied_so (inl t) = inl (record { request = t.request; ordered = t.ordered; seq = t.seq; reply = t.served.replies })
-  replied_so (inr t) = inr (record {
+-- a line's answer is that over the history that it leaves
+answer_over : (rules : Rules) (head : LaneHead) (h : List Entry) (line given : List ℕ) (a : LineAnswer) (middle : List Entry)
+    → ServesLine rules head h line given a middle → IsAnswerOver rules head middle line a
+answer_over rules head h line given (replied a) middle (inl t) = (
+  t.served.replies.front,
+  inl (record { request = t.request; ordered = t.ordered; seq = t.seq; reply = t.served.replies }),
+  up_to_asked rules.limit middle t.request a.reply.answer a.reply.front t.served.replies.front t.served.replies.answer,
+)
+answer_over rules head h line given (replied a) middle (inr t) = (
+  ap (λ (r : Reply). r.front) t.reply ∙ ap length (sym t.same),
+  inr (record {
     malformed = t.malformed;
     is_malformed = t.is_malformed;
     seq = t.seq;
     reply = t.reply ∙ ap (λ (l : List Entry). malformed_reply t.malformed (length l)) (sym t.same);
-  })
+  }),
+  subst (λ (r : Reply). IsUpTo r.front r.answer) (sym t.reply) tt,
+)
+answer_over rules head h line given (extracted seq x) middle t =
+    let s = t.served in (
+      s.front ∙ ap length (sym s.same),
+      record {
+        from = t.from;
+        to = t.to;
+        ordered = t.ordered;
+        minute = s.minute;
+        is_reading = s.is_reading;
+        written = subst (λ (l : List Entry). rules.extraction l t.from t.to s.minute x.size x.afd) (sym s.same) s.written;
+      },
+    )
 
-  up_to_so : (s : ServesLine limit offset head h line given a middle) → IsUpTo a.reply.front a.reply.answer
-  up_to_so (inl t) = up_to_asked limit middle t.request a.reply.answer a.reply.front t.served.replies.front t.served.replies.answer
-  up_to_so (inr t) = subst (λ (r : Reply). IsUpTo r.front r.answer) (sym t.reply) tt
+-- and tells how long that history is
+tells_length : (rules : Rules) (head : LaneHead) (h : List Entry) (line : List ℕ) (a : LineAnswer) → IsAnswerOver rules head h line a → front_of a ≡ length h
+tells_length rules head h line (replied a) over = over.0
+tells_length rules head h line (extracted seq x) over = over.0
 
-  front_reply : ServesLine limit offset head h line given a middle → IsFrontReply limit head (length h) after line a
-  front_reply s =
-      let is = front_is s in
-      let grown = no_shorter h middle (ServesLine-goes_on limit offset head h line given a middle s) in
-      let within = no_shorter middle after on in
+pub are_front_replies : (rules : Rules) (head : LaneHead) (h : List Entry) (lines : List (List ℕ)) (given : List ℕ) (answers : List LineAnswer) (after : List Entry)
+    → ServesLines rules head h lines given answers after → AreFrontReplies rules head (length h) after lines answers
+are_front_replies rules head h [] given [] after t = tt
+are_front_replies rules head h (line ∷ lines) given (a ∷ answers) after t =
+    let on = ServesLines-goes_on rules head t.2 lines t.1 answers after t.5 in
+    let over = answer_over rules head h line t.0 a t.2 t.4 in
+    let is : front_of a ≡ length t.2 = tells_length rules head t.2 line a over in
+    let risen = no_shorter h t.2 (ServesLine-goes_on rules head h line t.0 a t.2 t.4) in
+    let within = no_shorter t.2 after on in (
       record {
         risen = omega arith;
         within = omega arith;
-        replied = subst (λ (l : List Entry). IsReplyTo limit head l line a) (sym (front_of middle after a.reply.front on is)) (replied_so s);
-        up_to = up_to_so s;
-      }
-
-pub are_front_replies : (limit : ℕ) (offset : ℤ) (head : LaneHead) (h : List Entry) (lines : List (List ℕ)) (given : List ℕ) (answers : List Answered) (after : List Entry)
-    → ServesLines limit offset head h lines given answers after → AreFrontReplies limit head (length h) after lines answers
-are_front_replies limit offset head h [] given [] after t = tt
-are_front_replies limit offset head h (line ∷ lines) given (a ∷ answers) after t =
-    let on = ServesLines-goes_on limit offset head t.2 lines t.1 answers after t.5 in (
-      front_reply limit offset head h line t.0 a t.2 after on t.4,
-      subst (λ (n : ℕ). AreFrontReplies limit head n after lines answers) (sym (front_is limit offset head h line t.0 a t.2 after on t.4))
-          (are_front_replies limit offset head t.2 lines t.1 answers after t.5),
+        over = subst (λ (n : ℕ). IsAnswerOver rules head (take n after) line a) (sym is)
+            (subst (λ (l : List Entry). IsAnswerOver rules head l line a) (sym (first_of t.2 after on)) over);
+      },
+      subst (λ (n : ℕ). AreFrontReplies rules head n after lines answers) (sym is) (are_front_replies rules head t.2 lines t.1 answers after t.5),
     )
-are_front_replies limit offset head h [] given (a ∷ answers) after t = absurd t
-are_front_replies limit offset head h (line ∷ lines) given [] after t = absurd t
+are_front_replies rules head h [] given (a ∷ answers) after t = absurd t
+are_front_replies rules head h (line ∷ lines) given [] after t = absurd t

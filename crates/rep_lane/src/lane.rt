@@ -3,11 +3,12 @@ ghost use Rattle.std.specs.Prelude.{◌≡◌, ◌≢◌, ◌+◌, ◌<◌, ◌�
 ghost use Rattle.rep_io.specs.Causes.{Rose};
 ghost use Rattle.rep_io.specs.Lines.{longest_text};
 ghost use Rattle.rep_io.specs.Cutter.{IsAtLimit, IsOver};
-ghost use Rattle.rep_wire.specs.LaneGrammar.{IsLaneHead};
+ghost use Rattle.rep_wire.specs.LaneGrammar.{IsLaneHead, operator};
+ghost use Rattle.rep_lane.specs.Desk.{steps_of};
 ghost use Rattle.rep_lane.specs.Lane.{Runs};
 ghost use Rattle.rep_lane.specs.Next.{TakesNext};
 
-use crate::answering::{answer_line, refuse_long_line};
+use crate::answering::{Kind, answer_line, refuse_long_line};
 use crate::desk::Desk;
 use crate::reading::next_line;
 use rep_io::{Lines, Next, Sink, Source};
@@ -24,7 +25,7 @@ pub enum End {
     SourceFault,
     /// The text has more bytes than a text may have.
     InputLimit,
-    /// Its sink failed at a reply, of which a front may stand.
+    /// Its sink failed at a reply or an extraction, of which a front may stand.
     SinkFault,
     /// The desk didn't answer, by the fault of that name.
     Stopped,
@@ -33,7 +34,7 @@ pub enum End {
     OutOfMemory,
 }
 
-/// How many lines got their whole reply, and how many of these were receipts and refusals.
+/// How many lines got their whole reply or extraction, and how many of these were receipts and refusals.
 #[derive(Clone, Copy, Debug, PartialEq, Eq)]
 pub struct Tally {
     pub lines: u64,
@@ -42,22 +43,23 @@ pub struct Tally {
 }
 
 impl Tally {
-    ghost use Rattle.std.specs.Prelude.{◌≡◌, ◌+◌, ◌<◌, ◌^◌, if◌then◌else◌};
+    ghost use Rattle.std.specs.Prelude.{◌≡◌, ◌+◌, ◌<◌, ◌^◌};
+    ghost use Rattle.rep_lane.specs.Answers.{as_receipt, as_refusal};
 
-    /// One line more, of which the answer is a receipt or not.
-    fn count(&mut self, is_receipt: bool)
+    /// One line more, which got this.
+    fn count(&mut self, kind: Kind)
         requires lines { self.old.lines + 1 < 2 ^ 64 }
         requires receipts { self.old.receipts + 1 < 2 ^ 64 }
         requires refused { self.old.refused + 1 < 2 ^ 64 }
         ensures lines { self.new.lines ≡ self.old.lines + 1 }
-        ensures receipts { self.new.receipts ≡ self.old.receipts + (if is_receipt then 1 else 0) }
-        ensures refused { self.new.refused ≡ self.old.refused + (if is_receipt then 0 else 1) }
+        ensures receipts { self.new.receipts ≡ self.old.receipts + as_receipt kind }
+        ensures refused { self.new.refused ≡ self.old.refused + as_refusal kind }
     {
         self.lines += 1;
-        if is_receipt {
-            self.receipts += 1;
-        } else {
-            self.refused += 1;
+        match kind {
+            Kind::Receipt => self.receipts += 1,
+            Kind::Refusal => self.refused += 1,
+            Kind::Extraction => {}
         }
     }
 }
@@ -72,8 +74,8 @@ pub struct LaneDone<S: Source, K: Sink> {
 }
 
 /// Answers the lines of a lane from the one with this number on, which is the next to be read, to its end. The head is
-/// that of the lane. Where no line got its whole reply and the sink didn't fail, the sink wasn't called. It takes no memory
-/// but the desk's.
+/// that of the lane. Where no line got its whole reply and neither the sink nor, in an operator's lane, the device failed,
+/// the sink wasn't called. It takes no memory but the desk's.
 pub fn run<S: Source, K: Sink, Q: Desk>(
     head: &LaneHead,
     number: u64,
@@ -83,10 +85,11 @@ pub fn run<S: Source, K: Sink, Q: Desk>(
 ) -> LaneDone<S, K>
     requires head { IsLaneHead head.now }
     requires number { number < 2 ^ 32 }
-    ensures runs { Runs S.left Q.asks Q.shows head.now number lines desk.old desk.new
+    ensures runs { Runs S.left (steps_of Q.asks Q.extracts Q.shows) head.now number lines desk.old desk.new
         (K.written sink) (K.written result.sink) result.tally result.end }
     ensures few { result.tally.lines < 2 ^ 63 }
-    ensures untouched { result.tally.lines ≡ 0 → result.end ≢ End.SinkFault → result.sink ≡ sink }
+    ensures untouched { result.tally.lines ≡ 0 → result.end ≢ End.SinkFault
+        → (result.end ≡ End.DeviceFault → head.now.kind ≢ operator) → result.sink ≡ sink }
     ensures over { result.end ≡ End.Done → IsOver result.lines }
     ensures limit { result.end ≡ End.InputLimit → IsAtLimit result.lines }
     ensures source_later { S.faults lines.source ≤ S.faults result.lines.source }
@@ -115,10 +118,11 @@ fn answer_all<S: Source, K: Sink, Q: Desk>(
 ) -> (End, Tally)
     requires head { IsLaneHead head.now }
     requires number { first < 2 ^ 32 }
-    ensures runs { Runs S.left Q.asks Q.shows head.now first lines.old desk.old desk.new
+    ensures runs { Runs S.left (steps_of Q.asks Q.extracts Q.shows) head.now first lines.old desk.old desk.new
         (K.written sink.old) (K.written sink.new) result.1 result.0 }
     ensures few { result.1.lines < 2 ^ 63 }
-    ensures untouched { result.1.lines ≡ 0 → result.0 ≢ End.SinkFault → sink.new ≡ sink.old }
+    ensures untouched { result.1.lines ≡ 0 → result.0 ≢ End.SinkFault
+        → (result.0 ≡ End.DeviceFault → head.now.kind ≢ operator) → sink.new ≡ sink.old }
     ensures over { result.0 ≡ End.Done → IsOver lines.new }
     ensures limit { result.0 ≡ End.InputLimit → IsAtLimit lines.new }
     ensures source_later { S.faults lines.old.source ≤ S.faults lines.new.source }
@@ -134,8 +138,8 @@ fn answer_all<S: Source, K: Sink, Q: Desk>(
     };
     'answers: loop {
         match answer_next(head, number, lines, sink, desk) {
-            Ok(is_receipt) => {
-                tally.count(is_receipt);
+            Ok(kind) => {
+                tally.count(kind);
                 number += 1;
             }
             Err(end) => return (end, tally),
@@ -150,12 +154,13 @@ fn answer_next<S: Source, K: Sink, Q: Desk>(
     lines: &mut Lines<S>,
     sink: &mut K,
     desk: &mut Q,
-) -> Result<bool, End>
+) -> Result<Kind, End>
     requires head { IsLaneHead head.now }
-    ensures takes { TakesNext S.left Q.asks Q.shows head.now number lines.old lines.new desk.old desk.new
+    ensures takes { TakesNext S.left (steps_of Q.asks Q.extracts Q.shows) head.now number lines.old lines.new desk.old desk.new
         (K.written sink.old) (K.written sink.new) result }
     ensures within { lines.new.taken ≤ longest_text + 1 }
-    ensures untouched { IfErr result (λ ended. ended ≢ End.SinkFault → sink.new ≡ sink.old) }
+    ensures untouched { IfErr result (λ ended. ended ≢ End.SinkFault
+        → (ended ≡ End.DeviceFault → head.now.kind ≢ operator) → sink.new ≡ sink.old) }
     ensures over { result ≡ Err End.Done → IsOver lines.new }
     ensures limit { result ≡ Err End.InputLimit → IsAtLimit lines.new }
     ensures source_later { S.faults lines.old.source ≤ S.faults lines.new.source }

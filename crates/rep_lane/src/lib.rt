@@ -1,9 +1,11 @@
 //! One collector's lane: a text whose first line is its head and whose other lines ask for requests, one after another.
-//! Each line is answered by a desk, and its reply is written to the lane's sink.
+//! Each line is answered by a desk, and its reply is written to the lane's sink; an operator's line may order an
+//! extraction, which the desk writes there.
 //!
 //! A desk is whatever serves requests: a recorder over a disk, or one in memory. `run` promises that the desk went by its
-//! own steps in the order of the lines, and that the sink got the reply lines of their answers. `IsServing` says of a
-//! desk that it serves over a history, and then the lines were served over it one after another (`ServesLines`).
+//! own steps in the order of the lines, and that the sink got the reply lines of their answers and the extractions.
+//! `IsServing` says of a desk that it serves over a history, and then the lines were served over it one after another
+//! (`ServesLines`).
 //!
 //! ```rust
 //! let mut lines = lines_of(source);
@@ -21,12 +23,12 @@ mod reading;
 #[cfg(test)]
 mod tests;
 
-pub use answering::{answer_line, refuse_long_line};
+pub use answering::{Kind, answer_line, refuse_long_line};
 pub use desk::{Desk, DeskFail};
 pub use head::{NoHead, read_head};
 pub use lane::{End, FIRST_LINE, LaneDone, Tally, run};
 pub use laws::{
-    served_lines_have_the_replies_of_their_fronts, serving_lines_adds_entries,
+    Extraction, served_lines_have_the_replies_of_their_fronts, serving_lines_adds_entries,
     serving_lines_keeps_a_history_sound,
 };
 pub use reading::{lines_of, next_line};

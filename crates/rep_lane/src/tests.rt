@@ -1,13 +1,13 @@
 //! Lanes over a recorder in memory whose clock stands still. The replies are written out; the hashes in them were computed
 //! by `sha256sum` over the clockings' fields.
-ghost use Rattle.std.specs.Prelude.{None};
+ghost use Rattle.std.specs.Prelude.{◌≢◌, None};
 ghost use Rattle.rep_wire.specs.LaneGrammar.{IsLaneHead};
 
 use crate::{Desk, DeskFail, End, FIRST_LINE, LaneDone, NoHead, lines_of, read_head, run};
 use rep_core::{Core, Verdict};
-use rep_fields::Stamp;
-use rep_io::{Failed, MemSink, MemSource, Source};
-use rep_wire::{Answer, LaneHead, Reply, Request, Slip};
+use rep_fields::{Day, Row, Stamp};
+use rep_io::{Failed, MemSink, MemSource, Sink, Source, put_all};
+use rep_wire::{Answer, LaneHead, Reply, Request, Slip, extract_line};
 use std::alloc::{AllocError, Global};
 use std::process::Abort;
 use std::test::Fail;
@@ -24,17 +24,15 @@ struct Recorder {
 impl Desk for Recorder {
     ghost asks = { λ old q result new. Unit {0} };
 
+    ghost extracts = { λ old from to due result new. Unit {0} };
+
     ghost shows = { λ old front new. Unit {0} };
 
     fn call(&mut self, q: &Request) -> Result<Reply, DeskFail> {
         // The prover finds the types inside of a reply only where a function names them.
         let _inside: (Option<Answer>, Option<Slip>) = (None, None);
-        let number = self.calls;
-        self.calls = number.saturating_add(1);
-        if let Some((at, fail)) = self.fails {
-            if at == number {
-                return Err(fail);
-            }
+        if let Some(fail) = self.failing() {
+            return Err(fail);
         }
         match self.core.decide(q, self.core.kept(q)) {
             Verdict::Fresh => {
@@ -48,8 +46,54 @@ impl Desk for Recorder {
         }
     }
 
+    // Writes three bytes in place of an AFD.
+    fn extract<K: Sink>(
+        &mut self,
+        line: u64,
+        seq: u64,
+        from: Day,
+        to: Day,
+        sink: &mut K,
+    ) -> Result<(), DeskFail> {
+        let _period = (from, to);
+        if let Some(fail) = self.failing() {
+            return Err(fail);
+        }
+        let front = self.core.count();
+        let mut bytes: Row<600> = Row::new();
+        bytes.push_bytes(extract_line(line, seq, 3, front).bytes());
+        bytes.push_bytes(b"AFD");
+        match put_all(sink, bytes.bytes()) {
+            Ok(()) => Ok(()),
+            Err(_) => Err(DeskFail::SinkFault),
+        }
+    }
+
     fn front(&mut self) -> u32 {
         self.core.count()
+    }
+}
+
+impl Recorder {
+    // How the next call fails, if it does. It is by no fault of the sink.
+    fn failing(&mut self) -> Option<DeskFail>
+        ensures { result ≢ Some DeskFail.SinkFault }
+    {
+        let number = self.calls;
+        self.calls = number.saturating_add(1);
+        let Some((at, fail)) = self.fails else {
+            return None;
+        };
+        if at != number {
+            return None;
+        }
+        match fail {
+            DeskFail::Stopped => Some(DeskFail::Stopped),
+            DeskFail::DeviceFault => Some(DeskFail::DeviceFault),
+            DeskFail::ClockFault => Some(DeskFail::ClockFault),
+            DeskFail::SinkFault => None,
+            DeskFail::OutOfMemory => Some(DeskFail::OutOfMemory),
+        }
     }
 }
 
@@ -345,6 +389,57 @@ fn a_desk_that_fails_ends_the_lane_without_a_reply(rt: HostRuntime) -> Result<()
         assert_eq!(rt; desk.calls, 2, "no line behind it is asked, {message}");
     }
     Ok(())
+}
+
+#[test]
+fn an_extraction_stands_among_the_replies(rt: HostRuntime) -> Result<(), Fail> {
+    let alloc = rt.alloc();
+    let mut desk = recorder_of_two(&rt, alloc)?;
+    let extraction: &[u8] = b"X|9|2024-03-04|2024-03-04\n";
+    let pieces: &[&[u8]] = &[b"L|9|00\n", extraction, b"V|10|07\n", extraction];
+    let want = leaving(
+        End::Done,
+        (3, 1, 0),
+        &[
+            "F|2|9|3|2\nAFD",
+            "R|3|10|3||2024-03-04T08:00:00-0300||3\n",
+            "F|4|9|3|3\nAFD",
+        ],
+    );
+    assert_lane(
+        &rt,
+        alloc,
+        &mut desk,
+        &sound(pieces),
+        &want,
+        "two extractions",
+    )?;
+    let cut = Lane {
+        room: 12,
+        ..sound(pieces)
+    };
+    let want = leaving(End::SinkFault, (0, 0, 0), &["F|2|9|3|3\nAF"]);
+    assert_lane(&rt, alloc, &mut desk, &cut, &want, "no room")?;
+    desk.fails = Some((desk.calls, DeskFail::ClockFault));
+    let want = leaving(End::ClockFault, (0, 0, 0), &[]);
+    assert_lane(
+        &rt,
+        alloc,
+        &mut desk,
+        &sound(pieces),
+        &want,
+        "a clock fault",
+    )?;
+    let pieces: &[&[u8]] = &[HEAD, extraction];
+    let want = leaving(End::Done, (1, 0, 1), &["N|2|9|01|3\n"]);
+    assert_lane(
+        &rt,
+        alloc,
+        &mut desk,
+        &sound(pieces),
+        &want,
+        "a collector's lane",
+    )
 }
 
 // A source that gives a lane's first lines, and then one letter for ever.

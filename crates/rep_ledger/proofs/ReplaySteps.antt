@@ -90,3 +90,6 @@ founded_at_end shown i core old now h taken some stands =
 pub replayed_at_end : {D : Type 0} (shown : D → Shown) (i : ℕ) (core : Kept) (old now : State D) (h : List Entry) → IsReplayed shown i core old now → i ≡ length old.frames → Stands core h → IsSome (shown old.disk).contents → old.frames ≡ frames_of h
 replayed_at_end shown i core old now h taken all stands told =
     sym (take_all i old.frames (omega arith)) ∙ taken.replayed told ∙ ap frames_of (entries_of core h stands)
+
+pub counted_at_end : {D : Type 0} (shown : D → Shown) (i : ℕ) (core : Kept) (old now : State D) (h : List Entry) → IsReplayed shown i core old now → i ≡ length old.frames → Stands core h → length h ≡ length old.frames
+counted_at_end shown i core old now h taken all stands = sym (ap length (entries_of core h stands)) ∙ taken.count ∙ all

@@ -42,6 +42,7 @@ pub fn replay<D: Disk>(alloc: Global, journal: &mut Journal<D>) -> Result<Core, 
     ensures founded { IfOk result (λ core. (h : List TheEntry) → Stands core h → IsFounded h) }
     ensures replayed { IfOk result (λ core. (h : List TheEntry) → Stands core h
         → IsSome (D.shown journal.old.disk).contents → journal.old.frames ≡ frames_of h) }
+    ensures count { IfOk result (λ core. (h : List TheEntry) → Stands core h → length h ≡ length journal.old.frames) }
     ensures limit { IfOk result (λ core. core.limit ≡ last_nsr) }
     ensures misfit { (at : ℕ) → result ≡ Err (NotReplayed.Misfit at)
         → IsSome (D.shown journal.old.disk).contents → MisfitAmong journal.old.frames at }

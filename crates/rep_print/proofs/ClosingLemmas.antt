@@ -12,7 +12,7 @@ use Rattle.rep_print.specs.Writing.{WritesAfd}
 use Rattle.rep_print.specs.declared.ending.PrintEnding.{PrintEnding}
 
 module _ {E : Type 0} (zone : ℤ) (h : List Entry) (minute : ℕ) (old new file_old file_new : Option (List ℕ)) (is_reading : IsReading minute) (tick : new ≡ append_known old (minute ∷ [])) where
-  pub file_made : (v : Unit {0}) → WritesAfd {E = E} zone h minute file_old file_new (Ok v) → MakesFile zone h old new file_old file_new (Ok tt)
+  pub file_made : (v : ℕ) → WritesAfd {E = E} zone h minute file_old file_new (Ok v) → MakesFile zone h old new file_old file_new (Ok tt)
   file_made v afd = (
     afd.bytes,
     record {

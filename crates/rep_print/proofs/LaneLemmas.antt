@@ -1,26 +1,31 @@
 -- how the lines of a lane that is printed go on one after another
-use Rattle.std.proofs.Common.{◌≡◌, ◌≢◌, ℕ, suc, ◌<◌, ◌≤◌, inl, Bool, List, [], ◌∷◌, ◌++◌, length, take, Option, Result, Ok, Err, ℤ, refl, sym, ap, subst, ◌∙◌, append_assoc, append-nil, arith}
+use Rattle.std.proofs.Common.{◌≡◌, ◌≢◌, ℕ, suc, ◌<◌, ◌≤◌, inl, inr, List, [], ◌∷◌, ◌++◌, length, take, Option, Result, Ok, Err, ℤ, refl, sym, ap, subst, ◌∙◌, append_assoc, append-nil, arith}
 use Rattle.std.specs.List.{concat}
 use Rattle.rep_io.specs.Causes.{Rose}
 use Rattle.rep_io.specs.Lines.{lines_of, longest_line, longest_text}
 use Rattle.rep_io.specs.Cutter.{Cutter}
-use Rattle.afd_records.specs.Record.{last_nsr}
+use Rattle.std.specs.Io.KnownBytes.{append_known}
 use Rattle.rep_wire.specs.declared.head.LaneHead.{LaneHead}
 use Rattle.rep_wire.specs.declared.request.Entry.{Entry}
 use Rattle.rep_report.specs.declared.ending.Ending.TheVariants.{AllAnswered, SomeRefused, SourceFault, SinkFault, DeviceFault, ClockFault, OutOfMemory, InputLimit}
 use Rattle.rep_report.proofs.KnownBytes.{append_known-nil}
 use Rattle.rep_lane.specs.LaneText.{IsWithin, HasRead}
-use Rattle.rep_lane.specs.Answers.{Answered, replies_from}
+use Rattle.rep_lane.specs.Answers.{LineAnswer, replies_from}
 use Rattle.rep_lane.specs.Desk.{AnswersLines}
 use Rattle.rep_lane.specs.Serving.{ServesLines, IsServing, ServesRequest, HasServed}
-use Rattle.rep_lane.specs.Line.{AnswersOne}
+use Rattle.rep_lane.specs.Line.{AnswersOne, FailsHere}
+use Rattle.rep_lane.specs.declared.answering.Kind.{Kind}
+use Rattle.rep_lane.specs.declared.desk.DeskFail.{DeskFail}
+use Rattle.rep_lane.specs.declared.desk.DeskFail.TheVariants as fail
 use Rattle.rep_lane.specs.declared.lane.End.{End}
 use Rattle.rep_lane.specs.declared.lane.End.TheVariants as end
 use Rattle.rep_lane.specs.declared.lane.Tally.{Tally}
 use Rattle.rep_lane.proofs.ServingLemmas.{lanes_are_served}
-use Rattle.rep_print.specs.Desk.{State, Asks, Shows, Served as WasServed}
+use Rattle.rep_print.specs.Desk.{State, steps_by, Served as WasServed}
+use Rattle.rep_print.specs.Extraction.{IsExtraction, rules_at}
 use Rattle.rep_print.specs.Printing.{BeginsByEmployer, IsEmployerLine, first_line}
-use Rattle.rep_print.specs.Steps.{EndsAtHead, HeadsBy, AnswersFirst, IsNext, LacksNext, Begins, ending_of, Ran, HasAnswers, EndsLane, Laned}
+use Rattle.rep_print.specs.Steps.{EndsAtHead, HeadsBy, AnswersFirst, FailsAtFirst, IsNext, LacksNext, Begins, ending_of, Ran, HasAnswers, EndsLane, Laned}
+use Rattle.rep_print.proofs.EmployerLemmas.{no_extraction}
 use Rattle.rep_print.specs.declared.ending.PrintEnding.{PrintEnding}
 use Rattle.rep_print.specs.declared.ending.PrintEnding.TheVariants.{NoHead, NoEmployer, Served}
 
@@ -36,7 +41,7 @@ module _ {C : Type 0} (readings : C → Option (List ℕ)) (faults : C → ℕ) 
   abbrev pub HasCome : State C → State C → Type 0
   HasCome old s = (s.zone ≡ old.zone) × (faults old.clock ≤ faults s.clock)
 
-  pub serving : (start : State C) → IsServing (Asks readings faults) Shows last_nsr start.zone (λ (s : State C). s.history) (λ (s : State C). readings s.clock) (HasCome start)
+  pub serving : (start : State C) → IsServing (steps_by readings faults) (rules_at start.zone) (λ (s : State C). s.history) (λ (s : State C). readings s.clock) (HasCome start)
   serving start = record {
     serves = λ old new q reply holds asked.
         let served : WasServed readings faults old q reply new = asked in (
@@ -44,9 +49,24 @@ module _ {C : Type 0} (readings : C → Option (List ℕ)) (faults : C → ℕ) 
           (
             served.given,
             served.readings_are,
-            subst (λ (z : ℤ). ServesRequest last_nsr z old.history q served.given reply new.history) holds.0 served.serves,
+            subst (λ (z : ℤ). ServesRequest (rules_at z) old.history q served.given reply new.history) holds.0 served.serves,
           ),
         );
+    extracts = λ old new from to x holds takes. (
+      (takes.zone ∙ holds.0, (let late = holds.1 in let later = takes.later in omega arith)),
+      (
+        takes.minute ∷ [],
+        takes.readings_are,
+        record {
+          minute = takes.minute;
+          is_reading = takes.is_reading;
+          one_reading = refl;
+          front = takes.front;
+          written = subst (λ (z : ℤ). IsExtraction z old.history from to takes.minute x.size x.afd) holds.0 takes.is_due;
+          same = takes.history;
+        },
+      ),
+    );
     looks = λ old new front holds shown. (
       subst (HasCome start) (sym shown.1) holds,
       shown.0,
@@ -58,15 +78,15 @@ module _ {C : Type 0} (readings : C → Option (List ℕ)) (faults : C → ℕ) 
   pub come_here : (old : State C) → HasCome old old
   come_here old = (refl, omega arith)
 
-  pub served : (head : LaneHead) (old : State C) (lines : List (List ℕ)) (answers : List Answered) (desk : State C) → AnswersLines (Asks readings faults) Shows head old lines answers desk
-      → HasServed last_nsr old.zone (λ (s : State C). s.history) (λ (s : State C). readings s.clock) (HasCome old) head old lines answers desk
+  pub served : (head : LaneHead) (old : State C) (lines : List (List ℕ)) (answers : List LineAnswer) (desk : State C) → AnswersLines (steps_by readings faults) head old lines answers desk
+      → HasServed (rules_at old.zone) (λ (s : State C). s.history) (λ (s : State C). readings s.clock) (HasCome old) head old lines answers desk
   served head old lines answers desk answered =
-      lanes_are_served (Asks readings faults) Shows last_nsr old.zone (λ (s : State C). s.history) (λ (s : State C). readings s.clock) (HasCome old) (serving old)
+      lanes_are_served (steps_by readings faults) (rules_at old.zone) (λ (s : State C). s.history) (λ (s : State C). readings s.clock) (HasCome old) (serving old)
       head old lines answers desk (come_here old) answered
 
   -- what lines that were answered leave
-  pub come : (head : LaneHead) (old : State C) (lines : List (List ℕ)) (answers : List Answered) (new : State C)
-      → AnswersLines (Asks readings faults) Shows head old lines answers new → HasCome old new
+  pub come : (head : LaneHead) (old : State C) (lines : List (List ℕ)) (answers : List LineAnswer) (new : State C)
+      → AnswersLines (steps_by readings faults) head old lines answers new → HasCome old new
   come head old lines answers new answered =
       (served head old lines answers new answered).holds
 
@@ -84,8 +104,8 @@ module _ {C : Type 0} (readings : C → Option (List ℕ)) (faults : C → ℕ) 
   }
 
   -- a run of the lines that were answered, after which the desk may have failed
-  abbrev pub ran : (head : LaneHead) (old : State C) (lines : List (List ℕ)) (answers : List Answered) (desk new : State C) → old.history ≡ []
-      → AnswersLines (Asks readings faults) Shows head old lines answers desk → BeginsByEmployer head lines → IsStill desk new → Ran readings old new answers
+  abbrev pub ran : (head : LaneHead) (old : State C) (lines : List (List ℕ)) (answers : List LineAnswer) (desk new : State C) → old.history ≡ []
+      → AnswersLines (steps_by readings faults) head old lines answers desk → BeginsByEmployer head lines → IsStill desk new → Ran readings old new answers
   ran head old lines answers desk new empty answered begins kept = record {
     run = record {
       head = head;
@@ -93,7 +113,7 @@ module _ {C : Type 0} (readings : C → Option (List ℕ)) (faults : C → ℕ) 
       given = (served head old lines answers desk answered).given;
       answers = answers;
       history = desk.history;
-      serves = subst (λ (h : List Entry). ServesLines last_nsr old.zone head h lines
+      serves = subst (λ (h : List Entry). ServesLines (rules_at old.zone) head h lines
           ((served head old lines answers desk answered).given) answers desk.history) empty
           (served head old lines answers desk answered).serves;
       begins = begins;
@@ -108,24 +128,35 @@ module _ {C : Type 0} (readings : C → Option (List ℕ)) (faults : C → ℕ) 
 -- which of a desk's ends line 2 may come to
 module _ {C : Type 0} (readings : C → Option (List ℕ)) (faults : C → ℕ) (head : LaneHead) (line : List ℕ) (old new : State C) (out_old out_new : Option (List ℕ))
     (asks : IsEmployerLine head line) where
-  pub answers_first : (e : End) → AnswersOne (Asks readings faults) Shows head first_line line old new out_old out_new (Err e)
+  fails_first : (why : DeskFail) → FailsHere (steps_by readings faults) head first_line why line old new out_old out_new
+      → FailsAtFirst readings faults head why line old new out_old out_new
+  fails_first why f = elim f.fails [
+    | inl t ↦ (record {
+      fails = record { request = t.request; ordered = t.ordered; failed = t.failed; nothing = refl };
+      said = f.said ∙ ap (append_known out_old) t.nothing ∙ append_known-nil out_old;
+    })
+    | inr t ↦ absurd (no_extraction head line t.seq t.from t.to asks t.ordered)
+  ]
+
+  pub answers_first : (e : End) → AnswersOne (steps_by readings faults) head first_line line old new out_old out_new (Err e)
       → AnswersFirst readings faults head line old new out_old out_new (Err (Served (ending_of e 0)))
   answers_first end.Done a = absurd a
   answers_first end.SourceFault a = absurd a
   answers_first end.InputLimit a = absurd a
-  answers_first end.SinkFault a = (asks, a)
-  answers_first end.Stopped a = absurd a.0.failed
-  answers_first end.DeviceFault a = absurd a.0.failed
-  answers_first end.ClockFault a = (asks, a)
-  answers_first end.OutOfMemory a = (asks, a)
+  answers_first end.SinkFault (inl a) = (asks, a)
+  answers_first end.SinkFault (inr a) = absurd (fails_first fail.SinkFault a).fails.failed
+  answers_first end.Stopped a = absurd (fails_first fail.Stopped a).fails.failed
+  answers_first end.DeviceFault a = absurd (fails_first fail.DeviceFault a).fails.failed
+  answers_first end.ClockFault a = (asks, fails_first fail.ClockFault a)
+  answers_first end.OutOfMemory a = (asks, fails_first fail.OutOfMemory a)
 
 -- a line that was given and answered as line 2
 pub founds : {S C : Type 0} (left : S → Option (List ℕ)) (readings : C → Option (List ℕ)) (faults : C → ℕ) (head : LaneHead) (c_old c_new : Cutter S)
-    (old new : State C) (out_old out_new : Option (List ℕ)) (line : List ℕ) (result : Result Bool PrintEnding)
+    (old new : State C) (out_old out_new : Option (List ℕ)) (line : List ℕ) (result : Result Kind PrintEnding)
     → ((text : List ℕ) (before : List (List ℕ)) → HasRead left c_old text before → IsNext left c_new line text before)
     → AnswersFirst readings faults head line old new out_old out_new result
     → Begins left readings faults head c_old c_new old new out_old out_new result
-founds left readings faults head c_old c_new old new out_old out_new line (Ok is_receipt) next a = record { line = line; answers = a; text = next }
+founds left readings faults head c_old c_new old new out_old out_new line (Ok kind) next a = record { line = line; answers = a; text = next }
 founds left readings faults head c_old c_new old new out_old out_new line (Err NoHead) next a = absurd a
 founds left readings faults head c_old c_new old new out_old out_new line (Err NoEmployer) next a = (
   a.1,
@@ -168,8 +199,8 @@ none_lacks head text before all short = record {
 abbrev pub ClockMoves : ℕ → ℕ → PrintEnding → Type 0
 ClockMoves before now ended = (before ≤ now) × (ended ≡ Served ClockFault → Rose before now)
 
-no_reply_yet : (answers : List Answered) → answers ≡ [] → concat (take 0 (replies_from first_line answers)) ++ [] ≡ []
-no_reply_yet answers none = ap (λ (x : List Answered). concat (take 0 (replies_from first_line x)) ++ []) none
+no_reply_yet : (answers : List LineAnswer) → answers ≡ [] → concat (take 0 (replies_from first_line answers)) ++ [] ≡ []
+no_reply_yet answers none = ap (λ (x : List LineAnswer). concat (take 0 (replies_from first_line x)) ++ []) none
 
 -- a lane that ends before a line was answered
 module _ {C : Type 0} (readings : C → Option (List ℕ)) (faults : C → ℕ) (head : LaneHead) (old new : State C) (out_old out_new : Option (List ℕ)) (tally : Tally)

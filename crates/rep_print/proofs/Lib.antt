@@ -1,9 +1,12 @@
 pub mod FileLemmas
-pub mod SummaryLemmas
+pub mod LedLemmas
+pub mod SpanLemmas
+pub mod KeepLemmas
 pub mod DeskLemmas
 pub mod HeadLines
 pub mod LaneLemmas
 pub mod StopLemmas
+pub mod GoneLemmas
 pub mod GoLemmas
 pub mod ClosingLemmas
 pub mod EmployerLemmas

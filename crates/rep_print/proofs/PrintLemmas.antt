@@ -5,18 +5,18 @@ use Rattle.std.specs.Io.KnownBytes.{append_known}
 use Rattle.std.proofs.lemmas.List.{take_all, nil_from_length}
 use Rattle.rep_io.specs.Causes.{Rose}
 use Rattle.rep_io.specs.Cutter.{Cutter}
-use Rattle.afd_records.specs.Record.{last_nsr}
 use Rattle.rep_wire.specs.declared.request.Entry.{Entry}
 use Rattle.rep_report.specs.Saying.{IsFront, IsStrictFront}
 use Rattle.rep_report.specs.declared.ending.Ending.TheVariants.{AllAnswered, SomeRefused, SourceFault, SinkFault, DeviceFault, ClockFault, OutOfMemory, InputLimit}
 use Rattle.rep_report.proofs.KnownBytes.{append_known-nil, append_known-append}
 use Rattle.rep_lane.specs.LaneText.{HasRead}
-use Rattle.rep_lane.specs.Answers.{Answered, replies_from, refusals_in}
+use Rattle.rep_lane.specs.Answers.{LineAnswer, replies_from, refusals_in}
 use Rattle.rep_lane.specs.declared.lane.Tally.{Tally}
 use Rattle.rep_lane.proofs.AnswerLemmas.{replies_from-length}
 use Rattle.rep_lane.proofs.ServingLemmas.{ServesLines-length}
 use Rattle.rep_print.specs.Afd.{IsPrintedFile}
 use Rattle.rep_print.specs.Desk.{State}
+use Rattle.rep_print.specs.Extraction.{rules_at}
 use Rattle.rep_print.specs.Ending.{status_of, last_text, NeedsCounts}
 use Rattle.rep_print.specs.Printing.{first_line, Run, IsAllAnswered, IsInOrder, WritesFile, EndsEarly, EndsBy, IsWholeOrNone, Prints, replies_of, counts_text, counts_of_run}
 use Rattle.rep_print.specs.Written.{Printed}
@@ -58,9 +58,9 @@ nothing_behind [] rest is = sym is
 nothing_behind (x ∷ front) rest is = absurd cc
 
 -- how the command ends, by its text
-module _ {zone : ℤ} (text : List ℕ) (run : Run zone) (answers : List Answered) (whole : ℕ) (next counts : List ℕ) (are : run.answers ≡ answers) where
+module _ {zone : ℤ} (text : List ℕ) (run : Run zone) (answers : List LineAnswer) (whole : ℕ) (next counts : List ℕ) (are : run.answers ≡ answers) where
   many : length run.lines ≡ length answers
-  many = ServesLines-length last_nsr zone run.head [] run.lines run.given run.answers run.history run.serves ∙ ap length are
+  many = ServesLines-length (rules_at zone) run.head [] run.lines run.given run.answers run.history run.serves ∙ ap length are
 
   early : (ended : PrintEnding) → HasReplied answers whole next ended → (ended ≡ Served SinkFault → ⊥) → EndsEarly run whole (run.given ++ []) []
   early ended r other = record {
@@ -75,7 +75,8 @@ module _ {zone : ℤ} (text : List ℕ) (run : Run zone) (answers : List Answere
   left_ends (Served SomeRefused) r ends other = absurd (other tt)
   left_ends (Served SourceFault) r ends other = early (Served SourceFault) r (λ same. absurd cc)
   left_ends (Served InputLimit) r ends other = (early (Served InputLimit) r (λ same. absurd cc), ends)
-  left_ends (Served ClockFault) r ends other = (early (Served ClockFault) r (λ same. absurd cc), inl ends)
+  left_ends (Served ClockFault) r (inl ends) other = (early (Served ClockFault) r (λ same. absurd cc), inl ends)
+  left_ends (Served ClockFault) r (inr ends) other = (early (Served ClockFault) r (λ same. absurd cc), inr (inl ends))
   left_ends (Served OutOfMemory) r ends other = (early (Served OutOfMemory) r (λ same. absurd cc), ends)
   left_ends (Served DeviceFault) r ends other = absurd ends
   left_ends (Served SinkFault) (inl r) ends other = absurd (r.2 refl)
@@ -83,7 +84,7 @@ module _ {zone : ℤ} (text : List ℕ) (run : Run zone) (answers : List Answere
       inl (record {
         all_but_one = r.0 ∙ sym many;
         writes = record { readings = append-nil run.given; nothing = refl };
-        cut = subst (λ (x : List Answered). IsStrictFront next (concat (drop whole (replies_from first_line x)))) (sym are) r.1;
+        cut = subst (λ (x : List LineAnswer). IsStrictFront next (concat (drop whole (replies_from first_line x)))) (sym are) r.1;
       })
 
   all_answered : (ended : PrintEnding) → IsDone ended → EndsLane text run ended → IsAllAnswered text run
@@ -120,7 +121,7 @@ module _ {zone : ℤ} (text : List ℕ) (run : Run zone) (answers : List Answere
     done_ends (Served AllAnswered) done r has ends bytes m is =
         ((done_whole (Served AllAnswered) done r, (file_of bytes m ends, is)), ap refusals_in are ∙ has.1)
     done_ends (Served SomeRefused) done r has ends bytes m is =
-        ((done_whole (Served SomeRefused) done r, (file_of bytes m ends, is)), subst (λ (x : List Answered). 0 < refusals_in x) (sym are) has.1)
+        ((done_whole (Served SomeRefused) done r, (file_of bytes m ends, is)), subst (λ (x : List LineAnswer). 0 < refusals_in x) (sym are) has.1)
     done_ends (Served SourceFault) done r has ends bytes m is = absurd done
     done_ends (Served SinkFault) done r has ends bytes m is = absurd done
     done_ends (Served DeviceFault) done r has ends bytes m is = absurd done
@@ -144,7 +145,7 @@ module _ {zone : ℤ} (text : List ℕ) (run : Run zone) (answers : List Answere
         })))
     closed_ends ended closed r has ends (inr (inr (inr c))) =
         subst (λ (x : PrintEnding). EndsBy text run whole (run.given ++ []) [] next counts x) (sym c.1)
-        (early ended r (λ same. subst IsDone same c.0), inr (all_answered ended c.0 ends))
+        (early ended r (λ same. subst IsDone same c.0), inr (inr (all_answered ended c.0 ends)))
 
     -- nothing of an AFD stands, or all of it, unless its sink failed
     pub whole_or_none : (FileFailed : Type 0) (ended closed : PrintEnding) → EndsLane text run ended → (c : Closes ended at h old new file_old file_new closed)
@@ -158,8 +159,8 @@ module _ {zone : ℤ} (text : List ℕ) (run : Run zone) (answers : List Answere
   -- where no line was answered, no counts are due
   no_counts : run.lines ≡ [] → IsStrictFront counts (counts_of_run run whole) → ⊥
   no_counts none cut =
-      let few : length run.answers ≡ 0 = sym (ServesLines-length last_nsr zone run.head [] run.lines run.given run.answers run.history run.serves) ∙ ap length none in
-      let nothing : counts_of_run run whole ≡ [] = ap (λ (x : List Answered). counts_text x whole (length run.history)) (nil_from_length run.answers few) in
+      let few : length run.answers ≡ 0 = sym (ServesLines-length (rules_at zone) run.head [] run.lines run.given run.answers run.history run.serves) ∙ ap length none in
+      let nothing : counts_of_run run whole ≡ [] = ap (λ (x : List LineAnswer). counts_text x whole (length run.history)) (nil_from_length run.answers few) in
       cut.1 (nothing_behind counts cut.0 (sym nothing ∙ cut.2))
 
   -- how it ends where the counts' line was cut
@@ -224,7 +225,7 @@ module _ {S K C : Type 0} (left : S → Option (List ℕ)) (written : K → Opti
   prints_text text o r order ends =
       let run = r.run in
       let counts_is : counts_line recorded tally ≡ counts_of_run run l.whole = counts_are old.zone run l.answers l.whole recorded tally r.answers_are l.tally_is within (count ∙ ap length r.history) in
-      let lines : length run.lines ≡ length l.answers = ServesLines-length last_nsr old.zone run.head [] run.lines run.given run.answers run.history run.serves ∙ ap length r.answers_are in
+      let lines : length run.lines ≡ length l.answers = ServesLines-length (rules_at old.zone) run.head [] run.lines run.given run.answers run.history run.serves ∙ ap length r.answers_are in
       let replies_are : replies_from first_line l.answers ≡ replies_of run = ap (replies_from first_line) (sym r.answers_are) in
       let whole_if : (ended ≡ Served SinkFault → ⊥) → l.whole ≡ length run.lines = λ other. (replied_all l.answers l.whole l.next ended l.replied other).0 ∙ sym lines in
       record {

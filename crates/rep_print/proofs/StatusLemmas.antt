@@ -5,7 +5,7 @@ use Rattle.rep_wire.specs.declared.head.LaneHead.{LaneHead}
 use Rattle.rep_wire.specs.declared.request.Entry.{Entry}
 use Rattle.rep_wire.proofs.HeadLemmas.{head_fields}
 use Rattle.rep_report.specs.declared.ending.Ending.TheVariants.{AllAnswered, SomeRefused, SourceFault, SinkFault, DeviceFault, ClockFault, OutOfMemory, InputLimit}
-use Rattle.rep_lane.specs.Answers.{Answered}
+use Rattle.rep_lane.specs.Answers.{LineAnswer}
 use Rattle.rep_lane.specs.Head.{IsHeadLine}
 use Rattle.rep_lane.specs.declared.lane.Tally.{Tally}
 use Rattle.rep_print.specs.Desk.{State}
@@ -19,7 +19,7 @@ use Rattle.rep_print.proofs.HeadLines.{one_kind}
 use Rattle.rep_print.proofs.EmployerLemmas.{run_employer}
 
 -- a lane that came to its end has answers
-done_some : (answers : List Answered) (ended : PrintEnding) → HasAnswers answers ended → IsDone ended → answers ≢ []
+done_some : (answers : List LineAnswer) (ended : PrintEnding) → HasAnswers answers ended → IsDone ended → answers ≢ []
 done_some answers NoHead has done = absurd done
 done_some answers NoEmployer has done = absurd done
 done_some answers (Served AllAnswered) has done = has.0
@@ -39,7 +39,7 @@ done_employer readings old new out_old out_new tally ended IsText l done =
     subst HasEmployer (sym l.some.history) (run_employer l.some.run (λ none. some (sym l.some.answers_are ∙ none)))
 
 -- it isn't the device that fails
-module _ (answers : List Answered) (zone : ℤ) (h : List Entry) (old new file_old file_new : Option (List ℕ)) (ended closed told : PrintEnding) (has : HasAnswers answers ended)
+module _ (answers : List LineAnswer) (zone : ℤ) (h : List Entry) (old new file_old file_new : Option (List ℕ)) (ended closed told : PrintEnding) (has : HasAnswers answers ended)
     (told_is : (told ≡ closed) ⊎ (told ≡ Served SinkFault)) (device : told ≡ Served DeviceFault) where
   not_sink : told ≡ Served SinkFault → ⊥
   not_sink sink = let clash : Served SinkFault ≡ Served DeviceFault = sym sink ∙ device in absurd cc

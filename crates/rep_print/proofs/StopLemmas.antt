@@ -1,10 +1,11 @@
 -- how a lane that is printed stops at line 2
-use Rattle.std.proofs.Common.{◌≡◌, ℕ, inr, List, [], ◌∷◌, Option, Err, refl, ap, ◌∙◌, append-nil, arith}
+use Rattle.std.proofs.Common.{◌≡◌, ℕ, inl, inr, List, [], ◌∷◌, Option, Err, refl, ap, ◌∙◌, append-nil, arith}
 use Rattle.rep_io.specs.Lines.{lines_of}
 use Rattle.rep_io.specs.Cutter.{Cutter}
 use Rattle.rep_wire.specs.Reply.{reply_text}
 use Rattle.rep_wire.specs.declared.head.LaneHead.{LaneHead}
 use Rattle.rep_report.specs.declared.ending.Ending.TheVariants.{AllAnswered, SomeRefused, SourceFault, SinkFault, DeviceFault, ClockFault, OutOfMemory, InputLimit}
+use Rattle.rep_lane.specs.Answers.{replied}
 use Rattle.rep_lane.specs.declared.lane.Tally.{Tally}
 use Rattle.rep_print.specs.Desk.{State, Untimed}
 use Rattle.rep_print.specs.Steps.{Begins, Laned, IsHeaded, IsRefusal}
@@ -38,12 +39,12 @@ module _ {S C : Type 0} (left : S → Option (List ℕ)) (readings : C → Optio
       let l = b.1 text (headed.0 ∷ []) headed.2 in
       record { long = l.0; read = inr (record { first = headed.0; headed = headed.1; behind = lines_of headed.2.rest; lines = headed.2.lines }, l.1) })
   stopped (Served ClockFault) b =
-      let fails = b.answers.1.0 in
-      unanswered readings faults head old new out_old out_new tally empty zeros (untimed_still readings faults old fails.request new fails.failed) b.answers.1.1 (Served ClockFault) (IsHeaded left head c_old)
+      let fails = b.answers.1.fails in
+      unanswered readings faults head old new out_old out_new tally empty zeros (untimed_still readings faults old fails.request new fails.failed) b.answers.1.said (Served ClockFault) (IsHeaded left head c_old)
       (λ same. absurd cc) tt
       (λ text headed.
       let n = b.text text (headed.0 ∷ []) headed.2 in
-      record {
+      inl (record {
         of_text = record { first = headed.0; headed = headed.1; behind = b.line ∷ lines_of n.read.rest; lines = n.read.lines };
         line = b.line;
         rest = lines_of n.read.rest;
@@ -53,10 +54,10 @@ module _ {S C : Type 0} (left : S → Option (List ℕ)) (readings : C → Optio
         ordered = fails.ordered;
         fresh = fails.failed.fresh;
         begins = b.answers.0;
-      })
+      }))
   stopped (Served OutOfMemory) b =
-      let fails = b.answers.1.0 in
-      unanswered readings faults head old new out_old out_new tally empty zeros (still readings faults old new fails.failed.1) b.answers.1.1 (Served OutOfMemory) (IsHeaded left head c_old)
+      let fails = b.answers.1.fails in
+      unanswered readings faults head old new out_old out_new tally empty zeros (still readings faults old new fails.failed.1) b.answers.1.said (Served OutOfMemory) (IsHeaded left head c_old)
       (λ same. absurd cc) tt
       (λ text headed.
       let n = b.text text (headed.0 ∷ []) headed.2 in
@@ -72,8 +73,8 @@ module _ {S C : Type 0} (left : S → Option (List ℕ)) (readings : C → Optio
         begins = b.answers.0;
       })
   stopped (Served SinkFault) b =
-      let writes = b.answers.1.0 in
-      let a = writes.a in
+      let writes = b.answers.1 in
+      let a = replied writes.a in
       record {
         zone = (come readings faults head old (b.line ∷ []) (a ∷ []) new (new, writes.answers, refl)).0;
         answers = a ∷ [];
@@ -81,7 +82,7 @@ module _ {S C : Type 0} (left : S → Option (List ℕ)) (readings : C → Optio
         whole = 0;
         next = writes.put;
         said = writes.said;
-        replied = inr (refl, (b.answers.1.1.0, b.answers.1.1.1, append-nil (reply_text 2 a.seq a.reply) ∙ b.answers.1.1.2), refl);
+        replied = inr (refl, (writes.cut.0, writes.cut.1, append-nil (reply_text 2 writes.a.seq writes.a.reply) ∙ writes.cut.2), refl);
         tally_is = record {
           lines = ap (λ (t : Tally). t.lines) zeros;
           receipts = ap (λ (t : Tally). t.receipts) zeros;
@@ -106,11 +107,11 @@ module _ {S C : Type 0} (left : S → Option (List ℕ)) (readings : C → Optio
   clock_moves (Served DeviceFault) b = absurd b
   clock_moves (Served SourceFault) b = (let same : faults new.clock ≡ faults old.clock = ap (λ (s : State C). faults s.clock) b.same in omega arith, λ same. absurd cc)
   clock_moves (Served InputLimit) b = (let same : faults new.clock ≡ faults old.clock = ap (λ (s : State C). faults s.clock) b.0.same in omega arith, λ same. absurd cc)
-  clock_moves (Served ClockFault) b = (b.answers.1.0.failed.later, λ same. b.answers.1.0.failed.cause)
+  clock_moves (Served ClockFault) b = (b.answers.1.fails.failed.later, λ same. b.answers.1.fails.failed.cause)
   clock_moves (Served OutOfMemory) b =
-      (let same : faults new.clock ≡ faults old.clock = ap (λ (s : State C). faults s.clock) b.answers.1.0.failed.1 in omega arith, λ same. absurd cc)
+      (let same : faults new.clock ≡ faults old.clock = ap (λ (s : State C). faults s.clock) b.answers.1.fails.failed.1 in omega arith, λ same. absurd cc)
   clock_moves (Served SinkFault) b =
-      ((come readings faults head old (b.line ∷ []) (b.answers.1.0.a ∷ []) new (new, b.answers.1.0.answers, refl)).1, λ same. absurd cc)
+      ((come readings faults head old (b.line ∷ []) (replied b.answers.1.a ∷ []) new (new, b.answers.1.answers, refl)).1, λ same. absurd cc)
 
   -- a lane that is refused leaves the desk as it was
   pub refused_same : (ended : PrintEnding) → Begins left readings faults head c_old c_new old new out_old out_new (Err ended) → IsRefusal ended → new ≡ old

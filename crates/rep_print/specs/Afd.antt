@@ -44,3 +44,20 @@ pub record IsPrintedFile (zone : ℤ) (h : List Entry) (minute : ℕ) (file : Li
   pub head : Head
   pub headed : IsPrintHead zone h minute head
   pub text : file ≡ file_text head (history_lines h) (counts_of (bodies_of h))
+
+-- the head of an AFD of a history whose first and last day are asked for
+pub record IsAskedHead (zone : ℤ) (h : List Entry) (from to minute : ℕ) (head : Head) : Type 0 where
+  pub employer : (nsr : ℕ) × (e : Entry) × IsLastEmployer h nsr e × NamesEmployer head e.body
+  pub rep : head.rep ≡ replicate 17 48
+  pub first : head.first ≡ from
+  pub last : head.last ≡ to
+  pub made : head.made ≡ moment_at minute zone
+  pub dev_kind : head.dev_kind ≡ 1
+  pub dev : head.dev ≡ replicate 14 48
+  pub model : head.model ≡ []
+
+-- the AFD of the whole history, whatever days are asked for: only its head has them
+pub record IsAskedFile (zone : ℤ) (h : List Entry) (from to minute : ℕ) (file : List ℕ) : Type 0 where
+  pub head : Head
+  pub headed : IsAskedHead zone h from to minute head
+  pub text : file ≡ file_text head (history_lines h) (counts_of (bodies_of h))

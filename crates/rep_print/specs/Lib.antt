@@ -1,4 +1,7 @@
 pub mod Afd
+pub mod Extraction
+pub mod Journal
+pub mod Fields
 pub mod Desk
 pub mod Ending
 pub mod Printing

@@ -11,7 +11,7 @@ use Rattle.rep_wire.specs.declared.head.LaneHead.{LaneHead}
 use Rattle.rep_wire.specs.declared.request.Ask.{Ask}
 use Rattle.rep_wire.specs.declared.request.Ask.TheVariants.{Mark, Employer, Worker, Adjust, Event}
 use Rattle.rep_wire.specs.declared.request.Request.{Request}
-use Rattle.rep_wire.specs.declared.request.Order.TheVariants.{Asked}
+use Rattle.rep_wire.specs.declared.request.Order.TheVariants.{Asked, Extract}
 use Rattle.rep_wire.specs.declared.request.Entry.{Entry}
 use Rattle.rep_core.specs.Verdict.{IsVerdict}
 use Rattle.rep_core.specs.declared.verdict.Verdict.TheVariants.{Fresh}
@@ -19,10 +19,11 @@ use Rattle.rep_report.specs.Report.{run_text}
 use Rattle.rep_report.specs.Saying.{IsFront, IsStrictFront}
 use Rattle.rep_report.specs.declared.ending.Ending.TheVariants.{AllAnswered, SomeRefused, SourceFault, SinkFault, DeviceFault, ClockFault, OutOfMemory, InputLimit}
 use Rattle.rep_lane.specs.LaneText.{ended_lines, IsWithin}
-use Rattle.rep_lane.specs.Answers.{Answered, replies_from, receipts_in, refusals_in}
+use Rattle.rep_lane.specs.Answers.{LineAnswer, replies_from, receipts_in, refusals_in}
 use Rattle.rep_lane.specs.Serving.{ServesLines}
 use Rattle.rep_lane.specs.Head.{IsHeadLine}
 use Rattle.rep_print.specs.Afd.{IsPrintedFile}
+use Rattle.rep_print.specs.Extraction.{rules_at}
 use Rattle.rep_print.specs.Ending.{status_of, last_text, NeedsCounts}
 use Rattle.rep_print.specs.declared.ending.PrintEnding.{PrintEnding}
 use Rattle.rep_print.specs.declared.ending.PrintEnding.TheVariants.{NoHead, NoEmployer, Served}
@@ -72,9 +73,9 @@ pub record Run (zone : ℤ) : Type 0 where
   pub head : LaneHead
   pub lines : List (List ℕ)
   pub given : List ℕ
-  pub answers : List Answered
+  pub answers : List LineAnswer
   pub history : List Entry
-  pub serves : ServesLines last_nsr zone head [] lines given answers history
+  pub serves : ServesLines (rules_at zone) head [] lines given answers history
   pub begins : BeginsByEmployer head lines
 
 -- the run's lines are the text's, behind an operator's head, and others come behind them
@@ -114,6 +115,19 @@ pub record IsBeforeRecording {zone : ℤ} (text : List ℕ) (run : Run zone) : T
   pub fresh : IsVerdict last_nsr run.history request Fresh
   pub begins : BeginsByEmployer run.head (run.lines ++ line ∷ [])
 
+-- The next line, which was read within the bytes that a text may have, orders an extraction.
+pub record IsBeforeExtraction {zone : ℤ} (text : List ℕ) (run : Run zone) : Type 0 where
+  pub of_text : IsRunOf text run
+  pub line : List ℕ
+  pub rest : List (List ℕ)
+  pub next : of_text.behind ≡ line ∷ rest
+  pub within : IsWithin (suc (suc (length run.lines))) text
+  pub seq : ℕ
+  pub from : ℕ
+  pub to : ℕ
+  pub ordered : Orders run.head line (Extract seq from to)
+  pub some : run.lines ≢ []
+
 -- there is no head to begin with
 pub record IsHeadless {zone : ℤ} (text : List ℕ) (run : Run zone) : Type 0 where
   pub none : run.lines ≡ []
@@ -130,7 +144,7 @@ pub record IsUnfounded {zone : ℤ} (text : List ℕ) (run : Run zone) : Type 0 
 -- What is written
 
 -- the counts' line, where line 2 was answered: so many lines were answered wholly
-abbrev pub counts_text : List Answered → ℕ → ℕ → List ℕ
+abbrev pub counts_text : List LineAnswer → ℕ → ℕ → List ℕ
 counts_text [] whole last = []
 counts_text (a ∷ answers) whole last =
     run_text 1 whole (receipts_in (take whole (a ∷ answers))) (refusals_in (take whole (a ∷ answers))) last
@@ -138,7 +152,7 @@ counts_text (a ∷ answers) whole last =
 abbrev pub counts_of_run : {zone : ℤ} → Run zone → ℕ → List ℕ
 counts_of_run run whole = counts_text run.answers whole (length run.history)
 
--- the reply lines that are due
+-- the replies and extractions that are due
 abbrev pub replies_of : {zone : ℤ} → Run zone → List (List ℕ)
 replies_of run = replies_from first_line run.answers
 
@@ -192,7 +206,7 @@ pub record EndsEarly {zone : ℤ} (run : Run zone) (whole : ℕ) (given written 
   pub all_whole : whole ≡ length run.lines
   pub writes : WritesNothing run given written
 
--- a reply was cut, the one behind those that were written wholly
+-- a reply or an extraction was cut, the one behind those that were written wholly
 pub record IsCutAtReply {zone : ℤ} (run : Run zone) (whole : ℕ) (given written next : List ℕ) : Type 0 where
   pub all_but_one : suc whole ≡ length run.lines
   pub writes : WritesNothing run given written
@@ -223,7 +237,7 @@ EndsBy text run whole given written next counts (Served SomeRefused) =
 EndsBy text run whole given written next counts (Served SourceFault) = EndsEarly run whole given written
 EndsBy text run whole given written next counts (Served InputLimit) = EndsEarly run whole given written × IsCutOff text run
 EndsBy text run whole given written next counts (Served ClockFault) =
-    EndsEarly run whole given written × (IsBeforeRecording text run ⊎ IsAllAnswered text run)
+    EndsEarly run whole given written × (IsBeforeRecording text run ⊎ IsBeforeExtraction text run ⊎ IsAllAnswered text run)
 EndsBy text run whole given written next counts (Served OutOfMemory) =
     EndsEarly run whole given written × IsBeforeRecording text run
 EndsBy text run whole given written next counts (Served DeviceFault) = ⊥

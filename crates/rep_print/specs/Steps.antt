@@ -1,5 +1,5 @@
 -- What the parts of `print` leave: words of this crate's own functions.
-use Rattle.std.specs.Prelude.{◌≡◌, ◌≢◌, ◌⊎◌, ℕ, zero, suc, ◌<◌, ◌≤◌, Bool, true, false, List, [], ◌∷◌, ◌++◌, length, take, drop, ℤ, Option, Result, Ok, Err}
+use Rattle.std.specs.Prelude.{◌≡◌, ◌≢◌, ◌⊎◌, ℕ, zero, suc, ◌+◌, ◌<◌, ◌≤◌, List, [], ◌∷◌, ◌++◌, length, take, drop, ℤ, Option, Result, Ok, Err}
 use Rattle.std.specs.List.{concat}
 use Rattle.std.specs.Io.KnownBytes.{append_known}
 use Rattle.rep_io.specs.Causes.{Rose}
@@ -13,16 +13,19 @@ use Rattle.rep_report.specs.Saying.{IsFront, IsStrictFront}
 use Rattle.rep_report.specs.declared.ending.Ending.{Ending}
 use Rattle.rep_report.specs.declared.ending.Ending.TheVariants.{AllAnswered, SomeRefused, SourceFault, SinkFault, DeviceFault, ClockFault, OutOfMemory, InputLimit}
 use Rattle.rep_lane.specs.LaneText.{ended_lines, IsWithin, HasRead}
-use Rattle.rep_lane.specs.Answers.{Answered, replies_from, refusals_in}
-use Rattle.rep_lane.specs.Line.{AnswersOne}
+use Rattle.rep_lane.specs.Answers.{LineAnswer, replies_from, as_receipt, as_refusal, refusals_in}
+use Rattle.rep_lane.specs.Line.{AnswersWholly, CutsReply, FailsToAnswer}
 use Rattle.rep_lane.specs.Lane.{IsTally, Runs}
+use Rattle.rep_lane.specs.declared.answering.Kind.{Kind}
+use Rattle.rep_lane.specs.declared.desk.DeskFail.{DeskFail}
+use Rattle.rep_lane.specs.declared.desk.DeskFail.TheVariants as fail
 use Rattle.rep_lane.specs.declared.lane.End.{End}
 use Rattle.rep_lane.specs.declared.lane.End.TheVariants as end
 use Rattle.rep_lane.specs.declared.lane.Tally.{Tally}
 use Rattle.rep_print.specs.Afd.{IsPrintedFile}
-use Rattle.rep_print.specs.Desk.{State, Asks, Shows}
+use Rattle.rep_print.specs.Desk.{State, steps_by}
 use Rattle.rep_print.specs.Ending.{last_text, NeedsCounts}
-use Rattle.rep_print.specs.Printing.{IsOperatorHead, HasNoOperatorHead, IsEmployerLine, LacksEmployer, first_line, Run, IsInOrder, IsAllAnswered, IsCutOff, IsBeforeRecording, IsHeadless, IsUnfounded}
+use Rattle.rep_print.specs.Printing.{IsOperatorHead, HasNoOperatorHead, IsEmployerLine, LacksEmployer, first_line, Run, IsInOrder, IsAllAnswered, IsCutOff, IsBeforeRecording, IsBeforeExtraction, IsHeadless, IsUnfounded}
 use Rattle.rep_print.specs.declared.ending.PrintEnding.{PrintEnding}
 use Rattle.rep_print.specs.declared.ending.PrintEnding.TheVariants.{NoHead, NoEmployer, Served}
 
@@ -55,19 +58,25 @@ pub record Untouched {C : Type 0} (old new : State C) (out_old out_new : Option 
   pub same : new ≡ old
   pub said : out_new ≡ out_old
 
+-- the desk failed at line 2, and nothing was written
+pub record FailsAtFirst {C : Type 0} (readings : C → Option (List ℕ)) (faults : C → ℕ) (head : LaneHead) (why : DeskFail) (line : List ℕ) (old new : State C)
+    (out_old out_new : Option (List ℕ)) : Type 0 where
+  pub fails : FailsToAnswer (steps_by readings faults) head why old line [] new
+  pub said : out_new ≡ out_old
+
 -- The line asks for the employer's record and was answered so, or the desk failed at it; another one changes nothing.
 abbrev pub AnswersFirst : {C : Type 0} → (C → Option (List ℕ)) → (C → ℕ) → LaneHead → List ℕ → State C → State C → Option (List ℕ) → Option (List ℕ)
-    → Result Bool PrintEnding → Type 0
-AnswersFirst readings faults head line old new out_old out_new (Ok is_receipt) =
-    IsEmployerLine head line × AnswersOne (Asks readings faults) Shows head first_line line old new out_old out_new (Ok is_receipt)
+    → Result Kind PrintEnding → Type 0
+AnswersFirst readings faults head line old new out_old out_new (Ok kind) =
+    IsEmployerLine head line × AnswersWholly (steps_by readings faults) head first_line line old new out_old out_new kind
 AnswersFirst readings faults head line old new out_old out_new (Err NoEmployer) =
     (IsEmployerLine head line → ⊥) × Untouched old new out_old out_new
 AnswersFirst readings faults head line old new out_old out_new (Err (Served SinkFault)) =
-    IsEmployerLine head line × AnswersOne (Asks readings faults) Shows head first_line line old new out_old out_new (Err end.SinkFault)
+    IsEmployerLine head line × CutsReply (steps_by readings faults) head first_line line old new out_old out_new
 AnswersFirst readings faults head line old new out_old out_new (Err (Served ClockFault)) =
-    IsEmployerLine head line × AnswersOne (Asks readings faults) Shows head first_line line old new out_old out_new (Err end.ClockFault)
+    IsEmployerLine head line × FailsAtFirst readings faults head fail.ClockFault line old new out_old out_new
 AnswersFirst readings faults head line old new out_old out_new (Err (Served OutOfMemory)) =
-    IsEmployerLine head line × AnswersOne (Asks readings faults) Shows head first_line line old new out_old out_new (Err end.OutOfMemory)
+    IsEmployerLine head line × FailsAtFirst readings faults head fail.OutOfMemory line old new out_old out_new
 AnswersFirst readings faults head line old new out_old out_new (Err _) = ⊥
 
 -- what is said of each text of which these lines were read before
@@ -88,16 +97,16 @@ pub record LacksNext (head : LaneHead) (text : List ℕ) (before : List (List �
 
 -- the next line was given, and was answered so as the lane's line 2
 pub record Founds {S C : Type 0} (left : S → Option (List ℕ)) (readings : C → Option (List ℕ)) (faults : C → ℕ) (head : LaneHead) (c_old c_new : Cutter S)
-    (old new : State C) (out_old out_new : Option (List ℕ)) (result : Result Bool PrintEnding) : Type 0 where
+    (old new : State C) (out_old out_new : Option (List ℕ)) (result : Result Kind PrintEnding) : Type 0 where
   pub line : List ℕ
   pub answers : AnswersFirst readings faults head line old new out_old out_new result
   pub text : OfText left c_old (IsNext left c_new line)
 
 -- what taking line 2 leaves
 abbrev pub Begins : {S C : Type 0} → (S → Option (List ℕ)) → (C → Option (List ℕ)) → (C → ℕ) → LaneHead → Cutter S → Cutter S
-    → State C → State C → Option (List ℕ) → Option (List ℕ) → Result Bool PrintEnding → Type 0
-Begins left readings faults head c_old c_new old new out_old out_new (Ok is_receipt) =
-    Founds left readings faults head c_old c_new old new out_old out_new (Ok is_receipt)
+    → State C → State C → Option (List ℕ) → Option (List ℕ) → Result Kind PrintEnding → Type 0
+Begins left readings faults head c_old c_new old new out_old out_new (Ok kind) =
+    Founds left readings faults head c_old c_new old new out_old out_new (Ok kind)
 Begins left readings faults head c_old c_new old new out_old out_new (Err NoHead) = ⊥
 Begins left readings faults head c_old c_new old new out_old out_new (Err NoEmployer) =
     Untouched old new out_old out_new × OfText left c_old (LacksNext head)
@@ -130,19 +139,18 @@ ending_of end.ClockFault refused = ClockFault
 ending_of end.OutOfMemory refused = OutOfMemory
 
 -- one line more, at the front
-abbrev pub count_first : Bool → Tally → Tally
-count_first true tally = record { lines = suc tally.lines; receipts = suc tally.receipts; refused = tally.refused }
-count_first false tally = record { lines = suc tally.lines; receipts = tally.receipts; refused = suc tally.refused }
+abbrev pub count_first : Kind → Tally → Tally
+count_first kind tally = record { lines = suc tally.lines; receipts = as_receipt kind + tally.receipts; refused = as_refusal kind + tally.refused }
 
 -- a run with these answers leaves the desk so
-pub record Ran {C : Type 0} (readings : C → Option (List ℕ)) (old new : State C) (answers : List Answered) : Type 0 where
+pub record Ran {C : Type 0} (readings : C → Option (List ℕ)) (old new : State C) (answers : List LineAnswer) : Type 0 where
   pub run : Run old.zone
   pub answers_are : run.answers ≡ answers
   pub history : new.history ≡ run.history
   pub readings_are : readings new.clock ≡ append_known (readings old.clock) run.given
 
 -- which answers there are, by how the lane ended
-abbrev pub HasAnswers : List Answered → PrintEnding → Type 0
+abbrev pub HasAnswers : List LineAnswer → PrintEnding → Type 0
 HasAnswers answers NoHead = answers ≡ []
 HasAnswers answers NoEmployer = answers ≡ []
 HasAnswers answers (Served AllAnswered) = (answers ≢ []) × (refusals_in answers ≡ 0)
@@ -151,7 +159,7 @@ HasAnswers answers (Served DeviceFault) = ⊥
 HasAnswers answers (Served _) = Unit {0}
 
 -- the replies that were written: each of them wholly, or all but the last
-abbrev pub HasReplied : List Answered → ℕ → List ℕ → PrintEnding → Type 0
+abbrev pub HasReplied : List LineAnswer → ℕ → List ℕ → PrintEnding → Type 0
 HasReplied answers whole next ended =
     ((whole ≡ length answers) × (next ≡ []) × (ended ≢ Served SinkFault))
     ⊎ ((suc whole ≡ length answers) × IsStrictFront next (concat (drop whole (replies_from first_line answers))) × (ended ≡ Served SinkFault))
@@ -165,11 +173,11 @@ EndsLane text run (Served SomeRefused) = IsAllAnswered text run
 EndsLane text run (Served SourceFault) = Unit {0}
 EndsLane text run (Served SinkFault) = Unit {0}
 EndsLane text run (Served DeviceFault) = ⊥
-EndsLane text run (Served ClockFault) = IsBeforeRecording text run
+EndsLane text run (Served ClockFault) = IsBeforeRecording text run ⊎ IsBeforeExtraction text run
 EndsLane text run (Served OutOfMemory) = IsBeforeRecording text run
 EndsLane text run (Served InputLimit) = IsCutOff text run
 
-pub record OfLane {C : Type 0} (readings : C → Option (List ℕ)) (old new : State C) (answers : List Answered) (ended : PrintEnding) (text : List ℕ) : Type 0 where
+pub record OfLane {C : Type 0} (readings : C → Option (List ℕ)) (old new : State C) (answers : List LineAnswer) (ended : PrintEnding) (text : List ℕ) : Type 0 where
   pub ran : Ran readings old new answers
   pub in_order : IsInOrder text ran.run
   pub ends : EndsLane text ran.run ended
@@ -178,7 +186,7 @@ pub record OfLane {C : Type 0} (readings : C → Option (List ℕ)) (old new : S
 pub record Laned {C : Type 0} (readings : C → Option (List ℕ)) (old new : State C) (out_old out_new : Option (List ℕ)) (tally : Tally) (ended : PrintEnding)
     (IsText : List ℕ → Type 0) : Type 0 where
   pub zone : new.zone ≡ old.zone
-  pub answers : List Answered
+  pub answers : List LineAnswer
   pub some : Ran readings old new answers
   pub whole : ℕ
   pub next : List ℕ
@@ -193,11 +201,11 @@ abbrev pub IsHeaded : {S : Type 0} → (S → Option (List ℕ)) → LaneHead �
 IsHeaded left head c text = (first : List ℕ) × IsOperatorHead head first × HasRead left c text (first ∷ [])
 
 -- the lines behind line 2 were served
-abbrev pub GoesOn : {S C : Type 0} → (S → Option (List ℕ)) → (C → Option (List ℕ)) → (C → ℕ) → LaneHead → Bool → Cutter S
+abbrev pub GoesOn : {S C : Type 0} → (S → Option (List ℕ)) → (C → Option (List ℕ)) → (C → ℕ) → LaneHead → Kind → Cutter S
     → State C → State C → Option (List ℕ) → Option (List ℕ) → Tally → PrintEnding → Type 0
-GoesOn left readings faults head is_receipt c old new out_old out_new tally ended =
-    (rest : Tally) × (e : End) × Runs left (Asks readings faults) Shows head 3 c old new out_old out_new rest e
-    × (tally ≡ count_first is_receipt rest) × (ended ≡ Served (ending_of e tally.refused))
+GoesOn left readings faults head kind c old new out_old out_new tally ended =
+    (rest : Tally) × (e : End) × Runs left (steps_by readings faults) head 3 c old new out_old out_new rest e
+    × (tally ≡ count_first kind rest) × (ended ≡ Served (ending_of e tally.refused))
 
 -- The AFD
 

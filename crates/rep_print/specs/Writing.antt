@@ -11,7 +11,7 @@ abbrev pub HasEmployer : List Entry → Type 0
 HasEmployer h = (nsr : ℕ) × (e : Entry) × IsLastEmployer h nsr e
 
 -- the AFD of the whole history was appended, or where the sink failed, a front of it that lacks a byte at least
-pub record WritesAfd {E : Type 0} (zone : ℤ) (h : List Entry) (minute : ℕ) (old new : Option (List ℕ)) (result : Result (Unit {0}) E) : Type 0 where
+pub record WritesAfd {E : Type 0} (zone : ℤ) (h : List Entry) (minute : ℕ) (old new : Option (List ℕ)) (result : Result ℕ E) : Type 0 where
   pub file : List ℕ
   pub printed : IsPrintedFile zone h minute file
   pub bytes : List ℕ

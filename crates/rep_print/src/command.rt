@@ -24,7 +24,8 @@ pub struct PrintDone<S: Source, K: Sink, C: Clock> {
 
 /// Serves the lines of the lane one after another over an empty history, writes their replies to `out`, and the AFD of the
 /// whole history to `file`, made at one more reading of the clock. Behind the replies `out` gets the line of the counts
-/// where line 2 was answered, and the line of a fault. `zone` is how far the recorder's clock is ahead of UTC, in minutes.
+/// where line 2 was answered, and the line of a fault. A line that orders an extraction has its AFD on `out`, behind its
+/// reply. `zone` is how far the recorder's clock is ahead of UTC, in minutes.
 ///
 /// The status is 0, or 1 where a request was refused; 3 where the first line isn't an operator's head, or line 2 isn't an
 /// employer's request; 4, 5 and 7 only where the source, a sink or the clock failed in this call; 8 for want of memory; and

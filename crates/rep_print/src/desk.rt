@@ -6,13 +6,16 @@ ghost use Rattle.afd_records.specs.Record.{last_nsr};
 ghost use Rattle.rep_wire.specs.Request.{IsRequest};
 ghost use Rattle.rep_core.specs.Verdict.{IsVerdict};
 ghost use Rattle.rep_core.specs.declared.verdict.Verdict.{Verdict};
-ghost use Rattle.rep_print.specs.Desk.{Asks, Shows};
+ghost use Rattle.rep_print.specs.Desk.{Asks, Extracts, Shows};
 ghost use Rattle.rep_print.specs.Steps.{MakesFile};
 ghost use Rattle.rep_print.specs.Writing.{HasEmployer};
 
-use crate::afd::write_file;
+use crate::afd::{head_of, span_of};
+use crate::journal::PrintJournal;
+use crate::keeping::{put_entry, put_extraction, take_room};
+use crate::laws::the_frames_of_a_history_make_its_file;
 use rep_core::{Core, Verdict};
-use rep_fields::Stamp;
+use rep_fields::{Day, Stamp};
 use rep_io::{Clock, Sink};
 use rep_lane::{Desk, DeskFail};
 use rep_report::Ending;
@@ -23,26 +26,25 @@ use std::marker::Model;
 /// How many numbers a recorder gives out at most.
 const LAST_NSR: u32 = 999_999_999;
 
-/// A recorder in memory, with a clock.
+/// A recorder in memory, with a clock. Its journal keeps the lines of its history.
 #[derive(Drop)]
 pub struct PrintDesk<C: Clock> {
     core: Core,
+    journal: PrintJournal,
     clock: C,
     // how far the recorder's clock is ahead of UTC, in minutes
     zone: i16,
 }
 
 impl<C: Clock> Model for PrintDesk<C> {
-    ghost use Rattle.std.specs.Prelude.{◌≡◌};
-    ghost use Rattle.rep_fields.specs.Moment.{IsOffset};
-    ghost use Rattle.afd_records.specs.Record.{last_nsr};
     ghost use Rattle.rep_print.specs.Desk.{State};
+    ghost use Rattle.rep_print.specs.Fields.{IsWhole};
 
     ghost Value = { State C };
 
     ghost view = { λ d. record { history = d.core.entries; clock = d.clock; zone = d.zone } };
 
-    ghost invariant = { λ d. (d.core.limit ≡ last_nsr) × IsOffset d.zone };
+    ghost invariant = { λ d. IsWhole d.core d.journal d.zone };
 }
 
 impl<C: Clock> PrintDesk<C> {
@@ -55,6 +57,7 @@ impl<C: Clock> PrintDesk<C> {
     {
         PrintDesk {
             core: Core::new(alloc, LAST_NSR),
+            journal: PrintJournal::new(alloc),
             clock,
             zone,
         }
@@ -92,8 +95,11 @@ impl<C: Clock> PrintDesk<C> {
         let Some(made) = Stamp::at(minute, self.zone) else {
             unreachable!()
         };
-        match write_file(&self.core, made, file) {
-            Ok(()) => Ok(()),
+        the_frames_of_a_history_make_its_file();
+        let span = span_of(&self.core);
+        let head = head_of(&self.core, span.first, span.last, made);
+        match self.journal.write(&head, file) {
+            Ok(_) => Ok(()),
             Err(_) => Err(Ending::SinkFault),
         }
     }
@@ -104,6 +110,7 @@ impl<C: Clock> PrintDesk<C> {
     {
         let PrintDesk {
             core: _,
+            journal: _,
             clock,
             zone: _,
         } = self;
@@ -116,7 +123,7 @@ impl<C: Clock> PrintDesk<C> {
         requires fresh { IsVerdict last_nsr self.old.history q.now Verdict.Fresh }
         ensures { Asks C.readings C.faults self.old q.now result self.new }
     {
-        if self.core.reserve(q).is_err() {
+        if take_room(&mut self.core, &mut self.journal, q).is_err() {
             return Err(DeskFail::OutOfMemory);
         }
         let Ok(minute) = self.clock.now() else {
@@ -125,7 +132,7 @@ impl<C: Clock> PrintDesk<C> {
         let Some(now) = Stamp::at(minute, self.zone) else {
             unreachable!()
         };
-        self.core.accept(q, now);
+        put_entry(&mut self.core, &mut self.journal, q, now);
         Ok(self.core.receipt(q))
     }
 }
@@ -133,12 +140,40 @@ impl<C: Clock> PrintDesk<C> {
 impl<C: Clock> Desk for PrintDesk<C> {
     ghost asks = { λ old q result new. Asks C.readings C.faults old q result new };
 
+    ghost extracts = { λ old from to due result new. Extracts C.readings C.faults old from to due result new };
+
     ghost shows = { λ old front new. Shows old front new };
 
     fn call(&mut self, q: &Request) -> Result<Reply, DeskFail> {
         match self.core.decide(q, self.core.kept(q)) {
             Verdict::Fresh => self.take(q),
             settled => Ok(self.core.reply(q, settled)),
+        }
+    }
+
+    // Without an employer's record there is nobody whom the AFD's head could name.
+    fn extract<K: Sink>(
+        &mut self,
+        line: u64,
+        seq: u64,
+        from: Day,
+        to: Day,
+        sink: &mut K,
+    ) -> Result<(), DeskFail> {
+        if self.core.employer().is_none() {
+            return Err(DeskFail::Stopped);
+        }
+        let Ok(minute) = self.clock.now() else {
+            return Err(DeskFail::ClockFault);
+        };
+        let Some(made) = Stamp::at(minute, self.zone) else {
+            unreachable!()
+        };
+        the_frames_of_a_history_make_its_file();
+        let head = head_of(&self.core, from, to, made);
+        match put_extraction(line, seq, self.core.count(), &head, &mut self.journal, sink) {
+            Ok(()) => Ok(()),
+            Err(_) => Err(DeskFail::SinkFault),
         }
     }
 

@@ -9,7 +9,7 @@ ghost use Rattle.rep_print.specs.Steps.{EndsAtHead, HeadsBy, AnswersFirst, Begin
 use crate::desk::PrintDesk;
 use crate::ending::PrintEnding;
 use rep_io::{Clock, Lines, Next, Sink, Source};
-use rep_lane::{End, FIRST_LINE, NoHead, Tally, answer_line, next_line, read_head, run};
+use rep_lane::{End, FIRST_LINE, Kind, NoHead, Tally, answer_line, next_line, read_head, run};
 use rep_report::Ending;
 use rep_wire::{Ask, LaneHead, Order, read_line};
 
@@ -113,7 +113,7 @@ fn serve_lines<S: Source, K: Sink, C: Clock>(
     let mut lines = lines;
     let mut out = out;
     match begin(head, &mut lines, &mut out, desk) {
-        Ok(is_receipt) => go_on(head, is_receipt, lines, out, desk),
+        Ok(kind) => go_on(head, kind, lines, out, desk),
         Err(ending) => Lane {
             lines,
             out,
@@ -123,13 +123,13 @@ fn serve_lines<S: Source, K: Sink, C: Clock>(
     }
 }
 
-// Takes line 2, and answers it where it asks for the employer's record. Answers whether it got a receipt.
+// Takes line 2, and answers it where it asks for the employer's record. Answers what it got.
 fn begin<S: Source, K: Sink, C: Clock>(
     head: &LaneHead,
     lines: &mut Lines<S>,
     out: &mut K,
     desk: &mut PrintDesk<C>,
-) -> Result<bool, PrintEnding>
+) -> Result<Kind, PrintEnding>
     requires head { IsLaneHead head.now }
     ensures begins { Begins S.left C.readings C.faults head.now lines.old lines.new desk.old desk.new
         (K.written out.old) (K.written out.new) result }
@@ -149,13 +149,13 @@ fn begin<S: Source, K: Sink, C: Clock>(
     }
 }
 
-// Answers line 2 where it asks for the employer's record. Answers whether it got a receipt.
+// Answers line 2 where it asks for the employer's record. Answers what it got.
 fn answer_first<K: Sink, C: Clock>(
     head: &LaneHead,
     line: &[u8],
     out: &mut K,
     desk: &mut PrintDesk<C>,
-) -> Result<bool, PrintEnding>
+) -> Result<Kind, PrintEnding>
     requires head { IsLaneHead head.now }
     ensures answers { AnswersFirst C.readings C.faults head.now line.now desk.old desk.new
         (K.written out.old) (K.written out.new) result }
@@ -167,7 +167,7 @@ fn answer_first<K: Sink, C: Clock>(
         return Err(PrintEnding::NoEmployer);
     }
     match answer_line(head, FIRST_LINE, line, out, desk) {
-        Ok(is_receipt) => Ok(is_receipt),
+        Ok(kind) => Ok(kind),
         Err(end) => Err(PrintEnding::Served(ending_of(end, 0))),
     }
 }
@@ -194,16 +194,16 @@ fn is_employer(ask: &Ask) -> bool
     }
 }
 
-// Serves the lines behind line 2, which got a receipt or a refusal.
+// Serves the lines behind line 2, which got this.
 fn go_on<S: Source, K: Sink, C: Clock>(
     head: &LaneHead,
-    is_receipt: bool,
+    kind: Kind,
     lines: Lines<S>,
     out: K,
     desk: &mut PrintDesk<C>,
 ) -> Lane<S, K>
     requires head { IsLaneHead head.now }
-    ensures goes_on { GoesOn S.left C.readings C.faults head.now is_receipt lines desk.old desk.new
+    ensures goes_on { GoesOn S.left C.readings C.faults head.now kind lines desk.old desk.new
         (K.written out) (K.written result.out) result.tally result.ending }
     ensures source_later { S.faults lines.source ≤ S.faults result.lines.source }
     ensures source_fault { result.ending ≡ PrintEnding.Served Ending.SourceFault
@@ -213,7 +213,7 @@ fn go_on<S: Source, K: Sink, C: Clock>(
         → Rose (K.faults out) (K.faults result.out) }
 {
     let done = run(head, FIRST_LINE + 1, lines, out, desk);
-    let tally = count_first(is_receipt, done.tally);
+    let tally = count_first(kind, done.tally);
     Lane {
         lines: done.lines,
         out: done.sink,
@@ -222,25 +222,22 @@ fn go_on<S: Source, K: Sink, C: Clock>(
     }
 }
 
-// One line more at the front, which got a receipt or a refusal.
-fn count_first(is_receipt: bool, tally: Tally) -> Tally
+// One line more at the front, which got this.
+fn count_first(kind: Kind, tally: Tally) -> Tally
     requires lines { tally.lines + 1 < 2 ^ 64 }
     requires receipts { tally.receipts + 1 < 2 ^ 64 }
     requires refused { tally.refused + 1 < 2 ^ 64 }
-    ensures { result ≡ count_first is_receipt tally }
+    ensures { result ≡ count_first kind tally }
 {
-    if is_receipt {
-        Tally {
-            lines: tally.lines + 1,
-            receipts: tally.receipts + 1,
-            refused: tally.refused,
-        }
-    } else {
-        Tally {
-            lines: tally.lines + 1,
-            receipts: tally.receipts,
-            refused: tally.refused + 1,
-        }
+    let (receipts, refused) = match kind {
+        Kind::Receipt => (1, 0),
+        Kind::Refusal => (0, 1),
+        Kind::Extraction => (0, 0),
+    };
+    Tally {
+        lines: 1 + tally.lines,
+        receipts: receipts + tally.receipts,
+        refused: refused + tally.refused,
     }
 }
 

@@ -1,5 +1,5 @@
-//! `print`: a dry run of one operator's lane over an empty history, without a disk. Each line is served, its reply goes to
-//! the output, and the AFD of the whole history to a file.
+//! `print`: a dry run of one operator's lane over an empty history. Its lines are kept in a journal on a disk in memory
+//! that never fails. Each line is served, its reply goes to the output, and the AFD of the whole history to a file.
 #![tactic(auto)]
 
 mod afd;
@@ -7,9 +7,14 @@ mod closing;
 mod command;
 mod desk;
 mod ending;
+mod journal;
+mod keeping;
 mod lane;
+mod laws;
 #[cfg(test)]
 mod tests;
+#[cfg(test)]
+mod tests_extractions;
 #[cfg(test)]
 mod tests_faults;
 #[cfg(test)]

@@ -45,7 +45,7 @@ pub(crate) const NOTHING_FAILS: Failing<'static> = Failing {
     out: &[],
 };
 
-fn bytes_of(alloc: Global, pieces: &[&[u8]]) -> Result<Vec<u8>, AllocError> {
+pub(crate) fn bytes_of(alloc: Global, pieces: &[&[u8]]) -> Result<Vec<u8>, AllocError> {
     let mut bytes = Vec::new(alloc);
     for piece in pieces {
         bytes.extend_from_slice(*piece)?;
@@ -123,10 +123,27 @@ pub(crate) fn said(alloc: Global, replies: usize, behind: &str) -> Result<String
     Ok(text)
 }
 
-/// An AFD of the company: its head's generation stamp and checksum, the lines behind the employer's, and the counts of
-/// the types 2 to 7.
-fn afd_of(
+/// The days of the AFD of one day.
+pub(crate) const ONE_DAY: &[u8] = b"2024-03-042024-03-04";
+
+/// The inclusion of Maria, at 07:01.
+pub(crate) fn inclusion(alloc: Global) -> Result<Vec<u8>, AllocError> {
+    let name = filled(alloc, b"MARIA", 52)?;
+    bytes_of(
+        alloc,
+        &[
+            b"00000000252024-03-04T07:01:00-0300I011144477735",
+            &name,
+            b"    529982247259EFB",
+        ],
+    )
+}
+
+/// An AFD of the company: its head's two days, generation stamp and checksum, the lines behind the employer's, and the
+/// counts of the types 2 to 7.
+pub(crate) fn afd_of(
     alloc: Global,
+    days: &[u8],
     made: &[u8],
     checksum: &[u8],
     records: &[&[u8]],
@@ -146,27 +163,26 @@ fn afd_of(
             b"00000000000000",
             &name,
             b"00000000000000000",
-            b"2024-03-04",
-            b"2024-03-04",
-            made,
-            b"003",
-            b"1",
-            b"00000000000000",
-            &model,
-            checksum,
-            b"\r\n",
-            b"000000001",
-            b"2",
-            b"2024-03-04T07:00:00-0300",
-            b"00052998224725",
-            b"1",
-            b"11222333000181",
-            b"00000000000000",
-            &name,
-            &place,
-            b"6351\r\n",
         ],
     )?;
+    bytes.extend_from_slice(days)?;
+    bytes.extend_from_slice(made)?;
+    bytes.extend_from_slice(b"003")?;
+    bytes.extend_from_slice(b"1")?;
+    bytes.extend_from_slice(b"00000000000000")?;
+    bytes.extend_from_slice(&model)?;
+    bytes.extend_from_slice(checksum)?;
+    bytes.extend_from_slice(b"\r\n")?;
+    bytes.extend_from_slice(b"000000001")?;
+    bytes.extend_from_slice(b"2")?;
+    bytes.extend_from_slice(b"2024-03-04T07:00:00-0300")?;
+    bytes.extend_from_slice(b"00052998224725")?;
+    bytes.extend_from_slice(b"1")?;
+    bytes.extend_from_slice(b"11222333000181")?;
+    bytes.extend_from_slice(b"00000000000000")?;
+    bytes.extend_from_slice(&name)?;
+    bytes.extend_from_slice(&place)?;
+    bytes.extend_from_slice(b"6351\r\n")?;
     for record in records {
         bytes.extend_from_slice(*record)?;
         bytes.extend_from_slice(b"\r\n")?;
@@ -192,6 +208,7 @@ fn an_employer_alone_gives_an_afd_of_four_lines(rt: HostRuntime) -> Result<(), F
     );
     let afd = afd_of(
         alloc,
+        ONE_DAY,
         b"2024-03-04T07:01:00-0300",
         b"B806",
         &[],
@@ -218,17 +235,10 @@ fn a_day_gives_a_chained_afd(rt: HostRuntime) -> Result<(), Fail> {
         done.out.bytes(),
         said(alloc, 4, "RUN|1|4|4|0|4\n")?.as_bytes()
     );
-    let name = filled(alloc, b"MARIA", 52)?;
-    let inclusion = bytes_of(
-        alloc,
-        &[
-            b"00000000252024-03-04T07:01:00-0300I011144477735",
-            &name,
-            b"    529982247259EFB",
-        ],
-    )?;
+    let inclusion = inclusion(alloc)?;
     let afd = afd_of(
         alloc,
+        ONE_DAY,
         b"2024-03-04T13:02:00-0300",
         b"D50D",
         &[

@@ -5,11 +5,11 @@ use Rattle.rep_io.specs.Lines.{longest_text}
 use Rattle.rep_report.specs.Saying.{Tells, status_of as ending_status}
 use Rattle.rep_report.specs.declared.ending.Ending.{Ending}
 use Rattle.rep_report.specs.declared.ending.Ending.TheVariants as ending
-use Rattle.rep_lane.specs.Answers.{Answered}
+use Rattle.rep_lane.specs.Answers.{LineAnswer, replies_from}
 use Rattle.rep_lane.specs.Lane.{EndsText}
 use Rattle.rep_lane.specs.declared.lane.End.{End}
 use Rattle.rep_lane.specs.declared.lane.End.TheVariants.{Done, SourceFault, InputLimit, SinkFault, Stopped, DeviceFault, ClockFault, OutOfMemory}
-use Rattle.rep_run.specs.Running.{Meanings, Parts, EndsAs, LeavesStore, ServesLane, TakesLane}
+use Rattle.rep_run.specs.Running.{Meanings, Parts, EndsAs, LeavesStore, ServesLane, TakesLane, first_line}
 use Rattle.rep_run.proofs.Known.{use_some}
 
 -- the ending of a status
@@ -54,7 +54,7 @@ told_7 ending.OutOfMemory is = absurd (omega arith)
 told_7 ending.InputLimit is = absurd (omega arith)
 
 -- the lane's end of an ending
-ended_source : (answers : List Answered) (ended : End) → EndsAs answers ended ending.SourceFault → ended ≡ SourceFault
+ended_source : (answers : List LineAnswer) (ended : End) → EndsAs answers ended ending.SourceFault → ended ≡ SourceFault
 ended_source answers Done ends = absurd ends
 ended_source answers SourceFault ends = refl
 ended_source answers InputLimit ends = absurd cc
@@ -64,7 +64,7 @@ ended_source answers DeviceFault ends = absurd cc
 ended_source answers ClockFault ends = absurd cc
 ended_source answers OutOfMemory ends = absurd cc
 
-ended_sink : (answers : List Answered) (ended : End) → EndsAs answers ended ending.SinkFault → ended ≡ SinkFault
+ended_sink : (answers : List LineAnswer) (ended : End) → EndsAs answers ended ending.SinkFault → ended ≡ SinkFault
 ended_sink answers Done ends = absurd ends
 ended_sink answers SourceFault ends = absurd cc
 ended_sink answers InputLimit ends = absurd cc
@@ -74,7 +74,7 @@ ended_sink answers DeviceFault ends = absurd cc
 ended_sink answers ClockFault ends = absurd cc
 ended_sink answers OutOfMemory ends = absurd cc
 
-ended_device : (answers : List Answered) (ended : End) → EndsAs answers ended ending.DeviceFault → ended ≡ DeviceFault
+ended_device : (answers : List LineAnswer) (ended : End) → EndsAs answers ended ending.DeviceFault → ended ≡ DeviceFault
 ended_device answers Done ends = absurd ends
 ended_device answers SourceFault ends = absurd cc
 ended_device answers InputLimit ends = absurd cc
@@ -84,7 +84,7 @@ ended_device answers DeviceFault ends = refl
 ended_device answers ClockFault ends = absurd cc
 ended_device answers OutOfMemory ends = absurd cc
 
-ended_clock : (answers : List Answered) (ended : End) → EndsAs answers ended ending.ClockFault → ended ≡ ClockFault
+ended_clock : (answers : List LineAnswer) (ended : End) → EndsAs answers ended ending.ClockFault → ended ≡ ClockFault
 ended_clock answers Done ends = absurd ends
 ended_clock answers SourceFault ends = absurd cc
 ended_clock answers InputLimit ends = absurd cc
@@ -94,7 +94,7 @@ ended_clock answers DeviceFault ends = absurd cc
 ended_clock answers ClockFault ends = refl
 ended_clock answers OutOfMemory ends = absurd cc
 
-ended_limit : (answers : List Answered) (ended : End) → EndsAs answers ended ending.InputLimit → ended ≡ InputLimit
+ended_limit : (answers : List LineAnswer) (ended : End) → EndsAs answers ended ending.InputLimit → ended ≡ InputLimit
 ended_limit answers Done ends = absurd ends
 ended_limit answers SourceFault ends = absurd cc
 ended_limit answers InputLimit ends = refl
@@ -115,15 +115,15 @@ module _ {S K D C : Type 0} (m : Meanings S K D C) (old new : Parts S K D C) (ou
   ended_by other end is kept ends =
       ends (subst (λ (e : Ending). EndsAs s.answers s.ended e) (due_told s.due s.told other s.concludes.put _ _ s.concludes.told is kept) s.due_is)
 
-  leaves_by : (end : End) → s.ended ≡ end → LeavesStore m old new s.site s.head s.next s.given s.after end
-  leaves_by end is = subst (λ (e : End). LeavesStore m old new s.site s.head s.next s.given s.after e) is s.leaves
+  leaves_by : (end : End) → s.ended ≡ end → LeavesStore m old new s.site s.head (replies_from first_line s.answers) s.whole s.says.next s.next s.given s.after end
+  leaves_by end is = subst (λ (e : End). LeavesStore m old new s.site s.head (replies_from first_line s.answers) s.whole s.says.next s.next s.given s.after e) is s.leaves
 
   pub source_cause : s.told ≡ ending.SourceFault → Rose (m.source_faults old.lane) (m.source_faults new.lane)
-  source_cause is = (leaves_by SourceFault (ended_by ending.SourceFault SourceFault is (λ never. absurd cc) (ended_source s.answers s.ended))).2
+  source_cause is = (leaves_by SourceFault (ended_by ending.SourceFault SourceFault is (λ never. absurd cc) (ended_source s.answers s.ended))).3
 
   pub sink_cause : s.told ≡ ending.SinkFault → Rose (m.sink_faults old.replies) (m.sink_faults new.replies) ⊎ Rose before now
   sink_cause is = elim s.concludes.told [
-    | inl same ↦ inl (leaves_by SinkFault (ended_sink s.answers s.ended (subst (λ (e : Ending). EndsAs s.answers s.ended e) (sym same ∙ is) s.due_is))).2
+    | inl same ↦ inl (leaves_by SinkFault (ended_sink s.answers s.ended (subst (λ (e : Ending). EndsAs s.answers s.ended e) (sym same ∙ is) s.due_is))).1
     | inr t ↦
         let rose : Rose before s.concludes.middle = t.2 in
         let until = s.concludes.until in
@@ -131,10 +131,10 @@ module _ {S K D C : Type 0} (m : Meanings S K D C) (old new : Parts S K D C) (ou
   ]
 
   pub device_cause : s.told ≡ ending.DeviceFault → Rose (m.shown old.disk).faults (m.shown new.disk).faults
-  device_cause is = (leaves_by DeviceFault (ended_by ending.DeviceFault DeviceFault is (λ never. absurd cc) (ended_device s.answers s.ended))).cause
+  device_cause is = (leaves_by DeviceFault (ended_by ending.DeviceFault DeviceFault is (λ never. absurd cc) (ended_device s.answers s.ended))).1
 
   pub clock_cause : s.told ≡ ending.ClockFault → Rose (m.clock_faults old.clock) (m.clock_faults new.clock)
-  clock_cause is = (leaves_by ClockFault (ended_by ending.ClockFault ClockFault is (λ never. absurd cc) (ended_clock s.answers s.ended))).2
+  clock_cause is = (leaves_by ClockFault (ended_by ending.ClockFault ClockFault is (λ never. absurd cc) (ended_clock s.answers s.ended))).3
 
   limit_cause : s.told ≡ ending.InputLimit → (text : List ℕ) → m.left old.lane ≡ Some text → longest_text < length text
   limit_cause is text told =

@@ -19,28 +19,34 @@ use Rattle.rep_ledger.proofs.DiskSteps.{Stayed-at}
 use Rattle.rep_ledger.proofs.SafetyLemmas.{IsFrontOf-refl, IsFrontOf-push, IsFrontOf-trans, Secures-trans}
 use Rattle.rep_store.specs.State.{State}
 use Rattle.rep_store.specs.Steps.{Serves, recorded_at}
-use Rattle.rep_lane.specs.Answers.{Answered}
+use Rattle.rep_lane.specs.Answers.{Answered, Extracted, LineAnswer, replied, extracted}
 use Rattle.rep_lane.specs.Desk.{AnswersLine, AnswersLines, malformed_reply}
-use Rattle.rep_run.specs.Desk.{Asks, Shows}
+use Rattle.rep_run.specs.Desk.{Asks, Files}
 use Rattle.rep_run.specs.Running.{receipts_at}
 use Rattle.rep_run.proofs.Known.{Changes-behind, Changes-same, told_on}
+use Rattle.rep_run.proofs.DeskLemmas.{store_steps}
 
 -- each receipt among the answers is sure at a moment
 abbrev pub IsSureOf : Shown → ℕ → Answer → Type 0
 IsSureOf s m (Receipt slip) = HasAtLeast slip.nsr s m
 IsSureOf s m (Refused code) = Unit {0}
 
-abbrev pub AreSure : Shown → ℕ → List Answered → Type 0
+abbrev pub IsSureLine : Shown → ℕ → LineAnswer → Type 0
+IsSureLine s m (replied a) = IsSureOf s m a.reply.answer
+IsSureLine s m (extracted seq x) = Unit {0}
+
+abbrev pub AreSure : Shown → ℕ → List LineAnswer → Type 0
 AreSure s m [] = Unit {0}
-AreSure s m (a ∷ answers) = IsSureOf s m a.reply.answer × AreSure s m answers
+AreSure s m (a ∷ answers) = IsSureLine s m a × AreSure s m answers
 
 sure_answer : (s : Shown) (m : ℕ) (answer : Answer) → IsSureOf s m answer → All (IsSure s) (receipted_at m answer)
 sure_answer s m (Receipt slip) sure = All-cons (IsSure s) (record { moment = m; nsr = slip.nsr }) [] sure (All-nil (IsSure s))
 sure_answer s m (Refused code) sure = All-nil (IsSure s)
 
-pub sure_receipts : (s : Shown) (m : ℕ) (answers : List Answered) → AreSure s m answers → All (IsSure s) (receipts_at m answers)
+pub sure_receipts : (s : Shown) (m : ℕ) (answers : List LineAnswer) → AreSure s m answers → All (IsSure s) (receipts_at m answers)
 sure_receipts s m [] sure = All-nil (IsSure s)
-sure_receipts s m (a ∷ answers) sure =
+sure_receipts s m (extracted seq x ∷ answers) sure = sure_receipts s m answers sure.1
+sure_receipts s m (replied a ∷ answers) sure =
     All-append (IsSure s) (receipted_at m a.reply.answer) (receipts_at m answers) (sure_answer s m a.reply.answer sure.0) (sure_receipts s m answers sure.1)
 
 answer_is_sure : (s : Shown) (m : ℕ) (answer : Answer) → All (IsSure s) (receipted_at m answer) → IsSureOf s m answer
@@ -51,22 +57,26 @@ still_sure_of : (s t : Shown) (m n : ℕ) → ((nsr : ℕ) → HasAtLeast nsr s 
 still_sure_of s t m n on (Receipt slip) sure = on slip.nsr sure
 still_sure_of s t m n on (Refused code) sure = tt
 
-still_sure : (s t : Shown) (m n : ℕ) → ((nsr : ℕ) → HasAtLeast nsr s m → HasAtLeast nsr t n) → (answers : List Answered) → AreSure s m answers → AreSure t n answers
-still_sure s t m n on [] sure = tt
-still_sure s t m n on (a ∷ answers) sure = (still_sure_of s t m n on a.reply.answer sure.0, still_sure s t m n on answers sure.1)
+still_sure_line : (s t : Shown) (m n : ℕ) → ((nsr : ℕ) → HasAtLeast nsr s m → HasAtLeast nsr t n) → (a : LineAnswer) → IsSureLine s m a → IsSureLine t n a
+still_sure_line s t m n on (replied a) sure = still_sure_of s t m n on a.reply.answer sure
+still_sure_line s t m n on (extracted seq x) sure = tt
 
-pub AreSure-push : (s : Shown) (m : ℕ) (answers : List Answered) (a : Answered) → AreSure s m answers → IsSureOf s m a.reply.answer → AreSure s m (answers ++ a ∷ [])
+still_sure : (s t : Shown) (m n : ℕ) → ((nsr : ℕ) → HasAtLeast nsr s m → HasAtLeast nsr t n) → (answers : List LineAnswer) → AreSure s m answers → AreSure t n answers
+still_sure s t m n on [] sure = tt
+still_sure s t m n on (a ∷ answers) sure = (still_sure_line s t m n on a sure.0, still_sure s t m n on answers sure.1)
+
+pub AreSure-push : (s : Shown) (m : ℕ) (answers : List LineAnswer) (a : LineAnswer) → AreSure s m answers → IsSureLine s m a → AreSure s m (answers ++ a ∷ [])
 AreSure-push s m [] a sure one = (one, tt)
 AreSure-push s m (b ∷ answers) a sure one = (sure.0, AreSure-push s m answers a sure.1 one)
 
 -- what is secure once these answers were given
-pub record Secured (start : Shown) (rested : ℕ) (first whole : List Entry) (answers : List Answered) (now : Shown) : Type 0 where
+pub record Secured (start : Shown) (rested : ℕ) (first whole : List Entry) (answers : List LineAnswer) (now : Shown) : Type 0 where
   pub late : rested ≤ now.moment
   pub secures : Secures rested first whole [] start now
   pub sure : AreSure now now.moment answers
 
 -- calls behind those
-pub secured_on : (start b c : Shown) (rested : ℕ) (first kept whole : List Entry) (answers : List Answered) (receipts : List Receipted) → start.moment ≤ b.moment → b.moment ≤ c.moment
+pub secured_on : (start b c : Shown) (rested : ℕ) (first kept whole : List Entry) (answers : List LineAnswer) (receipts : List Receipted) → start.moment ≤ b.moment → b.moment ≤ c.moment
     → IsFrontOf first kept → IsFrontOf kept whole → Secured start rested first kept answers b → Secures b.moment kept whole receipts b c → Secured start rested first whole answers c
 secured_on start b c rested first kept whole answers receipts earlier later front goes_on before step =
     let bare : Secures b.moment kept whole [] b c = record { past = step.past; early = step.early; images = step.images; sure = step.sure; receipted = All-nil (IsSure c) } in
@@ -81,16 +91,23 @@ secured_on start b c rested first kept whole answers receipts earlier later fron
     }
 
 -- and one answer more
-pub secured_push : (start b c : Shown) (rested : ℕ) (first kept whole : List Entry) (answers : List Answered) (a : Answered) → start.moment ≤ b.moment → b.moment ≤ c.moment
+pub secured_push : (start b c : Shown) (rested : ℕ) (first kept whole : List Entry) (answers : List LineAnswer) (a : Answered) → start.moment ≤ b.moment → b.moment ≤ c.moment
     → IsFrontOf first kept → IsFrontOf kept whole → Secured start rested first kept answers b
-    → Secures b.moment kept whole (receipted_at c.moment a.reply.answer) b c → Secured start rested first whole (answers ++ a ∷ []) c
+    → Secures b.moment kept whole (receipted_at c.moment a.reply.answer) b c → Secured start rested first whole (answers ++ replied a ∷ []) c
 secured_push start b c rested first kept whole answers a earlier later front goes_on before step =
     let on : Secured start rested first whole answers c = secured_on start b c rested first kept whole answers (receipted_at c.moment a.reply.answer) earlier later front goes_on before step in
     record {
       late = on.late;
       secures = on.secures;
-      sure = AreSure-push c c.moment answers a on.sure (answer_is_sure c c.moment a.reply.answer step.receipted);
+      sure = AreSure-push c c.moment answers (replied a) on.sure (answer_is_sure c c.moment a.reply.answer step.receipted);
     }
+
+-- and one extraction more
+pub secured_beside : (start b c : Shown) (rested : ℕ) (first kept : List Entry) (answers : List LineAnswer) (seq : ℕ) (x : Extracted) → start.moment ≤ b.moment → b.moment ≤ c.moment
+    → IsFrontOf first kept → Secured start rested first kept answers b → Secures b.moment kept kept [] b c → Secured start rested first kept (answers ++ extracted seq x ∷ []) c
+secured_beside start b c rested first kept answers seq x earlier later front before step =
+    let on : Secured start rested first kept answers c = secured_on start b c rested first kept kept answers [] earlier later front (IsFrontOf-refl kept) before step in
+    record { late = on.late; secures = on.secures; sure = AreSure-push c c.moment answers (extracted seq x) on.sure tt }
 
 pub rest_read : (old new : Shown) → IsAtRest old → IsRead old new → IsAtRest new
 rest_read old new rest read below image leaves =
@@ -106,7 +123,7 @@ recorded_front h q offset None = IsFrontOf-refl h
 recorded_front h q offset (Some minute) = IsFrontOf-push h (entry_of q (moment_at minute offset))
 
 -- what is left once these answers were given, since the disk and the clock showed this
-pub record Stands {D C : Type 0} (shown : D → Shown) (faults : C → ℕ) (start : Shown) (rested : ℕ) (first : List Entry) (clock_faults : ℕ) (answers : List Answered) (s : State D C) : Type 0 where
+pub record Stands {D C : Type 0} (shown : D → Shown) (faults : C → ℕ) (start : Shown) (rested : ℕ) (first : List Entry) (clock_faults : ℕ) (answers : List LineAnswer) (s : State D C) : Type 0 where
   pub front : IsFrontOf first s.history
   pub contents : Changes (λ _ bytes. IsLedgerOf bytes s.history) start.contents (shown s.disk).contents
   pub rest : IsAtRest (shown s.disk)
@@ -162,8 +179,8 @@ module _ {D C : Type 0} (shown : D → Shown) (readings : C → Option (List ℕ
   refl_contents h (Some was) None changes = absurd changes
   refl_contents h (Some was) (Some now) changes = changes
 
-  stands_request : (q : Request) (a : Answered) (answers : List Answered) (old new : State D C) → Asks shown readings faults old q (Ok a.reply) new
-      → Stands shown faults start rested first clock_faults answers old → Stands shown faults start rested first clock_faults (answers ++ a ∷ []) new
+  stands_request : (q : Request) (a : Answered) (answers : List LineAnswer) (old new : State D C) → Asks shown readings faults old q (Ok a.reply) new
+      → Stands shown faults start rested first clock_faults answers old → Stands shown faults start rested first clock_faults (answers ++ replied a ∷ []) new
   stands_request q a answers old new asked stands =
       let g = goes shown readings faults q a.reply old new asked.answered in
       let on : IsFrontOf old.history new.history = subst (λ (h : List Entry). IsFrontOf old.history h) (sym g.history) (recorded_front old.history q old.offset new.reading) in
@@ -185,9 +202,9 @@ module _ {D C : Type 0} (shown : D → Shown) (readings : C → Option (List ℕ
             secured_push start (shown old.disk) (shown new.disk) rested first old.history new.history answers a stands.later later stands.front on (stands.safe told earlier) step;
       }
 
-  stands_looked : (a : Answered) (answers : List Answered) (old new : State D C) → new ≡ old → (front : ℕ) (malformed : Malformed) → a.reply ≡ malformed_reply malformed front
-      → Stands shown faults start rested first clock_faults answers old → Stands shown faults start rested first clock_faults (answers ++ a ∷ []) new
-  stands_looked a answers old new same front malformed is stands = subst (λ (s : State D C). Stands shown faults start rested first clock_faults (answers ++ a ∷ []) s) (sym same) (record {
+  stands_looked : (a : Answered) (answers : List LineAnswer) (old new : State D C) → new ≡ old → (front : ℕ) (malformed : Malformed) → a.reply ≡ malformed_reply malformed front
+      → Stands shown faults start rested first clock_faults answers old → Stands shown faults start rested first clock_faults (answers ++ replied a ∷ []) new
+  stands_looked a answers old new same front malformed is stands = subst (λ (s : State D C). Stands shown faults start rested first clock_faults (answers ++ replied a ∷ []) s) (sym same) (record {
     front = stands.front;
     contents = stands.contents;
     rest = stands.rest;
@@ -199,23 +216,47 @@ module _ {D C : Type 0} (shown : D → Shown) (readings : C → Option (List ℕ
         record {
           late = before.late;
           secures = before.secures;
-          sure = AreSure-push (shown old.disk) (shown old.disk).moment answers a before.sure
+          sure = AreSure-push (shown old.disk) (shown old.disk).moment answers (replied a) before.sure
               (subst (λ (r : Reply). IsSureOf (shown old.disk) (shown old.disk).moment r.answer) (sym is) tt);
         };
   })
 
-  pub lines_stand : (lines : List (List ℕ)) (answers done : List Answered) (old new : State D C) → AnswersLines {Q = State D C} (Asks shown readings faults) Shows head old lines answers new
+  stands_extracted : (from to seq : ℕ) (x : Extracted) (answers : List LineAnswer) (old new : State D C) → Files shown readings faults old from to x (Ok tt) new
+      → Stands shown faults start rested first clock_faults answers old → Stands shown faults start rested first clock_faults (answers ++ extracted seq x ∷ []) new
+  stands_extracted from to seq x answers old new files stands =
+      let takes = files.answered.takes in
+      let read = takes.kept.disk in
+      let history : new.history ≡ old.history = takes.kept.history in
+      record {
+        front = subst (IsFrontOf first) (sym history) stands.front;
+        contents = subst (λ (h : List Entry). Changes (λ _ bytes. IsLedgerOf bytes h) start.contents (shown new.disk).contents) (sym history)
+            (Changes-same (λ _ bytes. IsLedgerOf bytes old.history) start.contents (shown old.disk).contents (shown new.disk).contents stands.contents read.contents);
+        rest = rest_read (shown old.disk) (shown new.disk) stands.rest read;
+        later = let one = stands.later in let two = read.later in omega arith;
+        disk_faults = let one = stands.disk_faults in let two = read.faults in omega arith;
+        clock_later = let one = stands.clock_later in let two = takes.clock.later in omega arith;
+        safe = λ told below.
+            let later = read.later in
+            let earlier : (shown old.disk).moment < last_moment = omega arith in
+            let step : Secures (shown old.disk).moment old.history old.history [] (shown old.disk) (shown new.disk) =
+            files.safe takes.running (told_on (λ _ bytes. IsLedgerOf bytes old.history) start.contents (shown old.disk).contents stands.contents told) below in
+            subst (λ (h : List Entry). Secured start rested first h (answers ++ extracted seq x ∷ []) (shown new.disk)) (sym history)
+            (secured_beside start (shown old.disk) (shown new.disk) rested first old.history answers seq x stands.later later stands.front (stands.safe told earlier) step);
+      }
+
+  pub lines_stand : (lines : List (List ℕ)) (answers done : List LineAnswer) (old new : State D C) → AnswersLines {Q = State D C} (store_steps shown readings faults) head old lines answers new
       → Stands shown faults start rested first clock_faults done old → Stands shown faults start rested first clock_faults (done ++ answers) new
   lines_stand [] [] done old new same stands =
       subst (λ (s : State D C). Stands shown faults start rested first clock_faults (done ++ []) s) (sym same)
-      (subst (λ (xs : List Answered). Stands shown faults start rested first clock_faults xs old) (sym (append-nil done)) stands)
+      (subst (λ (xs : List LineAnswer). Stands shown faults start rested first clock_faults xs old) (sym (append-nil done)) stands)
   lines_stand (line ∷ lines) (a ∷ answers) done old new t stands =
-      subst (λ (xs : List Answered). Stands shown faults start rested first clock_faults xs new) (append_assoc done (a ∷ []) answers)
+      subst (λ (xs : List LineAnswer). Stands shown faults start rested first clock_faults xs new) (append_assoc done (a ∷ []) answers)
       (lines_stand lines answers (done ++ a ∷ []) t.0 new t.2 (line_stands line a done old t.0 t.1 stands))
     where
-      line_stands : (line : List ℕ) (a : Answered) (done : List Answered) (old next : State D C) → AnswersLine {Q = State D C} (Asks shown readings faults) Shows head old line a next
+      line_stands : (line : List ℕ) (a : LineAnswer) (done : List LineAnswer) (old next : State D C) → AnswersLine {Q = State D C} (store_steps shown readings faults) head old line a next
           → Stands shown faults start rested first clock_faults done old → Stands shown faults start rested first clock_faults (done ++ a ∷ []) next
-      line_stands line a done old next (inl r) stands = stands_request r.request a done old next r.asked stands
-      line_stands line a done old next (inr r) stands = stands_looked a done old next r.shown.1 r.front r.malformed r.reply stands
+      line_stands line (replied a) done old next (inl r) stands = stands_request r.request a done old next r.asked stands
+      line_stands line (replied a) done old next (inr r) stands = stands_looked a done old next r.shown.1 r.front r.malformed r.reply stands
+      line_stands line (extracted seq x) done old next r stands = stands_extracted r.from r.to seq x done old next r.done stands
   lines_stand [] (a ∷ answers) done old new t stands = absurd t
   lines_stand (line ∷ lines) [] done old new t stands = absurd t

@@ -1,6 +1,7 @@
 pub mod Command
 pub mod Settings
 pub mod Creating
+pub mod Extraction
 pub mod Desk
 pub mod Running
 pub mod Steps

@@ -1,16 +1,17 @@
 -- What `run` leaves of one lane over a journal: this project's own. What is said of a text, of contents or of readings
 -- holds where they are told.
-use Rattle.std.specs.Prelude.{◌≡◌, ◌⊎◌, ℕ, suc, ◌+◌, ◌<◌, ◌≤◌, List, [], ◌∷◌, ◌++◌, length, take, IfSome, Option}
+use Rattle.std.specs.Prelude.{◌≡◌, ◌≢◌, ◌⊎◌, ℕ, suc, ◌+◌, ◌<◌, ◌≤◌, List, [], ◌∷◌, ◌++◌, length, take, drop, IfSome, IsSome, Option}
+use Rattle.std.specs.List.{concat}
 use Rattle.std.specs.Io.KnownBytes.{append_known}
 use Rattle.rep_io.specs.Causes.{Rose}
 use Rattle.rep_io.specs.Lines.{lines_of, longest_text}
 use Rattle.rep_io.specs.Streams.{IsReading}
 use Rattle.rep_fields.specs.Moment.{moment_at}
 use Rattle.rep_disk.specs.Disk.{Shown, Changes, IsAtRest}
-use Rattle.rep_wire.specs.LaneGrammar.{IsLaneHead, Orders}
+use Rattle.rep_wire.specs.LaneGrammar.{operator, IsLaneHead, Orders}
 use Rattle.rep_wire.specs.declared.head.LaneHead.{LaneHead}
 use Rattle.rep_wire.specs.declared.request.Request.{Request}
-use Rattle.rep_wire.specs.declared.request.Order.TheVariants.{Asked}
+use Rattle.rep_wire.specs.declared.request.Order.TheVariants.{Asked, Extract}
 use Rattle.rep_wire.specs.declared.request.Entry.{Entry}
 use Rattle.rep_core.specs.Verdict.{IsVerdict}
 use Rattle.rep_core.specs.Answered.{recorded_after}
@@ -22,16 +23,17 @@ use Rattle.rep_ledger.specs.Safety.{IsSafe, Receipted, receipted_at}
 use Rattle.rep_site.specs.Site.{IsSite}
 use Rattle.rep_site.specs.declared.site.Site.{Site}
 use Rattle.rep_report.specs.Report.{run_text}
-use Rattle.rep_report.specs.Saying.{SaysLine, Concludes, status_of as ending_status}
+use Rattle.rep_report.specs.Saying.{IsStrictFront, SaysLine, Concludes, status_of as ending_status}
 use Rattle.rep_report.specs.declared.ending.Ending.{Ending}
 use Rattle.rep_report.specs.declared.ending.Ending.TheVariants as ending
 use Rattle.rep_lane.specs.LaneText.{ended_lines, IsWithin}
-use Rattle.rep_lane.specs.Answers.{Answered, replies_from, receipts_in, refusals_in}
-use Rattle.rep_lane.specs.Serving.{ServesLines}
+use Rattle.rep_lane.specs.Answers.{Extracted, LineAnswer, replied, extracted, extract_bytes, replies_from, receipts_in, refusals_in}
+use Rattle.rep_lane.specs.Serving.{Rules, rules_of, ServesLines}
 use Rattle.rep_lane.specs.Head.{IsHeadLine, HasNoHead}
-use Rattle.rep_lane.specs.Lane.{Says, IsWritten, EndsText}
+use Rattle.rep_lane.specs.Lane.{Says, EndsText}
 use Rattle.rep_lane.specs.declared.lane.End.{End}
 use Rattle.rep_lane.specs.declared.lane.End.TheVariants.{Done, SourceFault, InputLimit, SinkFault, Stopped, DeviceFault, ClockFault, OutOfMemory}
+use Rattle.rep_run.specs.Extraction.{IsExtraction, IsExtractOf}
 use Rattle.rep_run.specs.Settings.{SaysSite, RefusesSite}
 use Rattle.rep_run.specs.Creating.{status_of, last_text}
 use Rattle.rep_run.specs.declared.refusal.Refusal.{Refusal}
@@ -169,21 +171,60 @@ IsDue site head next after =
     (line : List ℕ) × (request : Request) × (next ≡ line ∷ []) × Orders head line (Asked request)
     × IsVerdict site.last_nsr after request Fresh
 
--- what is left by the lane's end, with its cause
-abbrev pub LeavesStore : {S K D C : Type 0} → Meanings S K D C → Parts S K D C → Parts S K D C → Site → LaneHead → List (List ℕ) → List ℕ
-    → List Entry → End → Type 0
-LeavesStore m old new site head next given after Done = KeepsHistory m old new given after × (next ≡ [])
-LeavesStore m old new site head next given after SourceFault =
-    KeepsHistory m old new given after × (next ≡ []) × Rose (m.source_faults old.lane) (m.source_faults new.lane)
-LeavesStore m old new site head next given after InputLimit = KeepsHistory m old new given after × (next ≡ [])
-LeavesStore m old new site head next given after SinkFault =
-    KeepsHistory m old new given after × (next ≡ []) × Rose (m.sink_faults old.replies) (m.sink_faults new.replies)
-LeavesStore m old new site head next given after Stopped = ⊥
-LeavesStore m old new site head next given after DeviceFault = FailsToPut m old new site head next given after
-LeavesStore m old new site head next given after ClockFault =
-    KeepsHistory m old new given after × IsDue site head next after × Rose (m.clock_faults old.clock) (m.clock_faults new.clock)
-LeavesStore m old new site head next given after OutOfMemory =
-    KeepsHistory m old new given after × IsDue site head next after
+-- or it orders an extraction
+abbrev pub OrdersExtraction : LaneHead → List (List ℕ) → Type 0
+OrdersExtraction head next =
+    (line : List ℕ) × (seq : ℕ) × (from : ℕ) × (to : ℕ) × (next ≡ line ∷ []) × Orders head line (Extract seq from to)
+
+-- The line behind those that were answered, which has this number, orders an extraction, and a front of it was written, at
+-- one more reading of the clock. The disk keeps the history, at rest.
+pub record CutsExtraction {S K D C : Type 0} (m : Meanings S K D C) (old new : Parts S K D C) (site : Site) (head : LaneHead) (number : ℕ)
+    (next : List (List ℕ)) (put given : List ℕ) (after : List Entry) : Type 0 where
+  pub line : List ℕ
+  pub next_is : next ≡ line ∷ []
+  pub seq : ℕ
+  pub from : ℕ
+  pub to : ℕ
+  pub ordered : Orders head line (Extract seq from to)
+  pub minute : ℕ
+  pub is_reading : IsReading minute
+  pub due : Extracted
+  pub front : due.front ≡ length after
+  pub made : IsSome (m.shown old.disk).contents → IsExtractOf site after from to minute due.size due.afd
+  pub cut : IsStrictFront put (extract_bytes number seq due)
+  pub keeps : KeepsHistory m old new (given ++ minute ∷ []) after
+
+-- Of the replies so many are written wholly, and then these bytes: none more; or a front of the next; or of the extraction
+-- that the line behind them orders.
+abbrev pub AllWritten : List (List ℕ) → ℕ → List ℕ → Type 0
+AllWritten replies whole put = (whole ≡ length replies) × (put ≡ [])
+
+abbrev pub CutsReply : List (List ℕ) → ℕ → List ℕ → Type 0
+CutsReply replies whole put = (suc whole ≡ length replies) × IsStrictFront put (concat (drop whole replies))
+
+-- what is left by the lane's end, with its cause, and what was written of the replies
+abbrev pub LeavesStore : {S K D C : Type 0} → Meanings S K D C → Parts S K D C → Parts S K D C → Site → LaneHead → List (List ℕ) → ℕ → List ℕ
+    → List (List ℕ) → List ℕ → List Entry → End → Type 0
+LeavesStore m old new site head replies whole put next given after Done = AllWritten replies whole put × KeepsHistory m old new given after × (next ≡ [])
+LeavesStore m old new site head replies whole put next given after SourceFault =
+    AllWritten replies whole put × KeepsHistory m old new given after × (next ≡ [])
+    × Rose (m.source_faults old.lane) (m.source_faults new.lane)
+LeavesStore m old new site head replies whole put next given after InputLimit =
+    AllWritten replies whole put × KeepsHistory m old new given after × (next ≡ [])
+LeavesStore m old new site head replies whole put next given after SinkFault =
+    ((CutsReply replies whole put × KeepsHistory m old new given after × (next ≡ []))
+    ⊎ ((whole ≡ length replies) × CutsExtraction m old new site head (first_line + length replies) next put given after))
+    × Rose (m.sink_faults old.replies) (m.sink_faults new.replies)
+LeavesStore m old new site head replies whole put next given after Stopped = ⊥
+LeavesStore m old new site head replies whole put next given after DeviceFault =
+    ((AllWritten replies whole put × FailsToPut m old new site head next given after)
+    ⊎ ((whole ≡ length replies) × CutsExtraction m old new site head (first_line + length replies) next put given after))
+    × Rose (m.shown old.disk).faults (m.shown new.disk).faults
+LeavesStore m old new site head replies whole put next given after ClockFault =
+    AllWritten replies whole put × KeepsHistory m old new given after × (IsDue site head next after ⊎ OrdersExtraction head next)
+    × Rose (m.clock_faults old.clock) (m.clock_faults new.clock)
+LeavesStore m old new site head replies whole put next given after OutOfMemory =
+    AllWritten replies whole put × KeepsHistory m old new given after × IsDue site head next after
 
 -- the text begins with the head, and these lines come behind it; the lane's end says this of it
 pub record TakesLane (text : List ℕ) (head : LaneHead) (taken : List (List ℕ)) (ended : End) : Type 0 where
@@ -194,7 +235,7 @@ pub record TakesLane (text : List ℕ) (head : LaneHead) (taken : List (List ℕ
   pub ends : EndsText text (suc (length taken)) rest ended
 
 -- how the command ends, by how the lane did and by whether a request was refused
-abbrev pub EndsAs : List Answered → End → Ending → Type 0
+abbrev pub EndsAs : List LineAnswer → End → Ending → Type 0
 EndsAs answers Done ending.AllAnswered = refusals_in answers ≡ 0
 EndsAs answers Done ending.SomeRefused = 0 < refusals_in answers
 EndsAs answers Done _ = ⊥
@@ -207,13 +248,18 @@ EndsAs answers ClockFault e = e ≡ ending.ClockFault
 EndsAs answers OutOfMemory e = e ≡ ending.OutOfMemory
 
 -- the receipts among the answers, at a moment
-abbrev pub receipts_at : ℕ → List Answered → List Receipted
+abbrev pub receipts_at : ℕ → List LineAnswer → List Receipted
 receipts_at moment [] = []
-receipts_at moment (a ∷ answers) = receipted_at moment a.reply.answer ++ receipts_at moment answers
+receipts_at moment (replied a ∷ answers) = receipted_at moment a.reply.answer ++ receipts_at moment answers
+receipts_at moment (extracted seq x ∷ answers) = receipts_at moment answers
 
 -- the counts' line of one lane, so many of whose answers were written wholly, where the recorder has so many entries
-abbrev pub counts_text : List Answered → ℕ → ℕ → List ℕ
+abbrev pub counts_text : List LineAnswer → ℕ → ℕ → List ℕ
 counts_text answers whole last = run_text 1 whole (receipts_in (take whole answers)) (refusals_in (take whole answers)) last
+
+-- the rules by which the lane is served: the site's, and its AFD for extractions
+abbrev pub lane_rules : {S K D C : Type 0} → Meanings S K D C → Parts S K D C → Site → Rules
+lane_rules m old site = rules_of site.last_nsr site.offset (IsExtraction (IsSome (m.shown old.disk).contents) site)
 
 -- Over the history that the disk kept the lines of the lane were served, one after another. Each reply that was due was
 -- written, the last perhaps cut. The history went on by the entries of those lines, the disk keeps it, and a crash leaves
@@ -227,18 +273,18 @@ pub record ServesLane {S K D C : Type 0} (m : Meanings S K D C) (old new : Parts
   pub found : IfSome (m.shown old.disk).contents (λ bytes. IsLedgerOf bytes before)
   pub lines : List (List ℕ)
   pub given : List ℕ
-  pub answers : List Answered
+  pub answers : List LineAnswer
   pub after : List Entry
-  pub serves : ServesLines site.last_nsr site.offset head before lines given answers after
+  pub serves : ServesLines (lane_rules m old site) head before lines given answers after
   pub ended : End
   -- the line at which the store failed, if it did
   pub next : List (List ℕ)
   pub lane : IfSome (m.left old.lane) (λ text. TakesLane text head (lines ++ next) ended)
   pub whole : ℕ
   pub says : Says (replies_from first_line answers) whole (m.written old.replies) (m.written new.replies)
-  pub written : IsWritten (replies_from first_line answers) whole says.next ended
-  pub unopened : answers ≡ [] → new.replies ≡ old.replies
-  pub leaves : LeavesStore m old new site head next given after ended
+  -- where nothing was to be written, the sink wasn't called
+  pub unopened : answers ≡ [] → ended ≢ SinkFault → (ended ≡ DeviceFault → head.kind ≢ operator) → new.replies ≡ old.replies
+  pub leaves : LeavesStore m old new site head (replies_from first_line answers) whole says.next next given after ended
   pub reached : List Entry
   pub reached_is : (reached ≡ after) ⊎ ((ended ≡ DeviceFault) × (fails : FailsToPut m old new site head next given after)
       × (reached ≡ recorded_after after fails.request (moment_at fails.minute site.offset)))

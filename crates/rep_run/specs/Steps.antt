@@ -16,6 +16,8 @@ use Rattle.rep_lane.specs.declared.desk.DeskFail.{DeskFail}
 use Rattle.rep_lane.specs.declared.desk.DeskFail.TheVariants as fail
 use Rattle.rep_store.specs.declared.error.Stop.{Stop}
 use Rattle.rep_store.specs.declared.error.Stop.TheVariants as stop
+use Rattle.rep_store.specs.declared.error.ExtractFail.{ExtractFail}
+use Rattle.rep_store.specs.declared.error.ExtractFail.TheVariants as extract
 use Rattle.rep_journal.specs.declared.error.WhyNot.TheVariants as why
 use Rattle.rep_store.specs.declared.error.StoreWhy.{StoreWhy}
 use Rattle.rep_store.specs.declared.error.StoreWhy.TheVariants as store
@@ -55,12 +57,18 @@ head_stopping head.OffGrammar = Refused refusal.NoHead
 head_stopping head.SourceFault = Ended ending.SourceFault
 head_stopping head.InputLimit = Ended ending.InputLimit
 
--- why a desk didn't answer, by its store
+-- why a desk didn't answer, or didn't write the whole of an extraction, by its store
 abbrev pub fail_of : Stop → DeskFail
 fail_of (stop.Stopped faults) = fail.Stopped
 fail_of stop.DeviceFault = fail.DeviceFault
 fail_of stop.ClockFault = fail.ClockFault
 fail_of stop.OutOfMemory = fail.OutOfMemory
+
+abbrev pub extract_fail : ExtractFail → DeskFail
+extract_fail (extract.Stopped faults) = fail.Stopped
+extract_fail extract.DeviceFault = fail.DeviceFault
+extract_fail extract.ClockFault = fail.ClockFault
+extract_fail extract.SinkFault = fail.SinkFault
 
 -- a site's text can't be read: memory is short, or the source failed
 abbrev pub FailsToRead : {T : Type 0} → ℕ → ℕ → Result T Stopping → Type 0

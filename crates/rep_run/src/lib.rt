@@ -14,4 +14,7 @@ mod tests;
 mod texts;
 
 pub use creating::{CreateDone, create};
+pub use refusal::Refusal;
 pub use running::{RunDone, run};
+pub use settings::read_site;
+pub use stopping::{Stopping, last_line, no_store};

@@ -8,9 +8,13 @@ use std::alloc::Global;
 use std::process::Abort;
 use std::test::Fail;
 
+mod contents;
+mod extractions;
 mod faults;
 mod lanes;
 mod making;
+mod orders;
+mod outages;
 mod refusals;
 
 // 2024-03-04T07:00, 07:01, 08:00 and 18:00 of Brasilia's time, in minutes of UTC since 1970.

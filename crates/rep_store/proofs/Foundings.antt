@@ -47,7 +47,7 @@ pub CrashesSafely-blank : {C : Type 0} (readings_of : C → Option (List ℕ)) (
 CrashesSafely-blank readings_of faults_of q offset clock clock' a b rest blank read = record { reading = None; taken = tt; safe = IsSafe-blank a b rest blank read }
 
 -- a disk at rest stays so when it is read
-IsAtRest-read : (a b : Shown) → IsAtRest a → IsRead a b → IsAtRest b
+pub IsAtRest-read : (a b : Shown) → IsAtRest a → IsRead a b → IsAtRest b
 IsAtRest-read a b rest read below image leaves =
     subst (λ o. IfSome o (λ bytes. image ≡ bytes)) (sym read.contents)
     (rest (omega (arith, read.later)) image ((Stayed-at a b (read.crash below) b.moment image read.later (omega arith)).0 leaves))
@@ -100,6 +100,7 @@ module _ {D C : Type 0} (shown : D → Shown) (readings_of : C → Option (List 
             rest = begins.rest;
           };
           count = tt;
+          as_many = λ runs. ap length begins.frames ∙ sym (ap length entries);
           frames = λ runs told. begins.frames ∙ kept_frames ∙ ap frames_of (sym entries);
         })
 

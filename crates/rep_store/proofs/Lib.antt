@@ -5,3 +5,8 @@ pub mod Openings
 pub mod Submits
 pub mod Reopenings
 pub mod Foundings
+pub mod Dates
+pub mod Employers
+pub mod Extractions
+pub mod Sizes
+pub mod OneText

@@ -63,6 +63,7 @@ module _ {D : Type 0} (shown : D → Shown) (core core' : Kept) (device device' 
               rest = IsAtRest-untouched (shown device.disk) (shown device'.disk) settled.rest reserved.disk;
             }));
         count = subst (λ o. CountsStop o device'.faults) (sym reserved.running) tt;
+        as_many = λ runs. ap length reserved.frames ∙ whole.as_many running ∙ sym (ap length same_entries);
         frames = λ runs told.
             reserved.frames ∙ whole.frames running (subst IsSome reserved.disk.contents told) ∙ ap frames_of (sym same_entries);
       }
@@ -124,6 +125,15 @@ module _ {D : Type 0} (shown : D → Shown) (core core' : Kept) (device device' 
           rest = put.appends.rest;
         }));
     count = subst (λ o. CountsStop o device'.faults) (sym put.running) tt;
+    as_many = λ runs.
+        omega (
+          arith,
+          ap length put.appends.frames,
+          length-append device.frames (next_frame core.entries (entry_of q now) ∷ []),
+          whole.as_many running,
+          ap length entries,
+          length-append core.entries (entry_of q now ∷ []),
+        );
     frames = λ runs told.
         frames_put put (told_before (shown device.disk).contents (shown device'.disk).contents (λ _ bytes. IsLedgerOf bytes (recorded_after core.entries q now)) (contents_put put) told)
         ∙ ap frames_of (sym entries);
@@ -169,5 +179,6 @@ module _ {D : Type 0} (shown : D → Shown) (core core' : Kept) (device device' 
     disk = subst (λ o. IsKept o core'.entries (shown device'.disk)) (sym stops.stopped)
         (subst (λ h. IsOpenAfter h (shown device'.disk)) (sym entries) (open_after stops));
     count = subst (λ o. CountsStop o device'.faults) (sym stops.stopped) (refl, omega (arith, stops.stops.counts));
+    as_many = λ runs. let no : Some device'.faults ≡ None = sym stops.stopped ∙ runs in absurd cc;
     frames = λ runs told. let no : Some device'.faults ≡ None = sym stops.stopped ∙ runs in absurd cc;
   }

@@ -40,7 +40,7 @@ ledger_image : (o : Option (List ℕ)) (h : List Entry) (image : List ℕ) → I
 ledger_image None h image same holds told = absurd cc
 ledger_image (Some bytes) h image same holds told = subst (λ x. IsLedgerOf x h) (sym same) holds
 
-module _ {D : Type 0} (shown : D → Shown) (disk : D) (site : Site) (is_site : IsSite site) (found read : journal.State D) (core core' : Kept) (device : Device D) (copy : Site) (kept : IfSome (shown disk).contents (λ bytes. IsJournalOf bytes found.frames × (found.frames ≢ []))) (by : IsKeptBy (shown disk) (shown found.disk)) (rest : RestsFrom ((shown disk).moment + 2) (shown found.disk)) (no_faults : found.faults ≡ 0) (founded : (h : List Entry) → Stands core h → IsFounded h) (replayed : (h : List Entry) → Stands core h → IsSome (shown found.disk).contents → found.frames ≡ frames_of h) (frames : read.frames ≡ found.frames) (faults : read.faults ≡ found.faults) (was_read : IsRead (shown found.disk) (shown read.disk)) (same : (h : List Entry) → Stands core h ↔ Stands core' h) (limit : core'.limit ≡ site.last_nsr) (is_running : device ≡ running read) (is_copy : copy ≡ site) where
+module _ {D : Type 0} (shown : D → Shown) (disk : D) (site : Site) (is_site : IsSite site) (found read : journal.State D) (core core' : Kept) (device : Device D) (copy : Site) (kept : IfSome (shown disk).contents (λ bytes. IsJournalOf bytes found.frames × (found.frames ≢ []))) (by : IsKeptBy (shown disk) (shown found.disk)) (rest : RestsFrom ((shown disk).moment + 2) (shown found.disk)) (no_faults : found.faults ≡ 0) (founded : (h : List Entry) → Stands core h → IsFounded h) (replayed : (h : List Entry) → Stands core h → IsSome (shown found.disk).contents → found.frames ≡ frames_of h) (counted : (h : List Entry) → Stands core h → length h ≡ length found.frames) (frames : read.frames ≡ found.frames) (faults : read.faults ≡ found.faults) (was_read : IsRead (shown found.disk) (shown read.disk)) (same : (h : List Entry) → Stands core h ↔ Stands core' h) (limit : core'.limit ≡ site.last_nsr) (is_running : device ≡ running read) (is_copy : copy ≡ site) where
   entries : core'.entries ≡ core.entries
   entries = entries_of core' core.entries ((same core.entries).0 (Stands-own core))
 
@@ -73,6 +73,7 @@ module _ {D : Type 0} (shown : D → Shown) (disk : D) (site : Site) (is_site : 
         is_site = subst IsSite (sym is_copy) is_site;
         disk = record { holds = ledger_read; rest = IsAtRest-rests ((shown disk).moment + 2) (shown read.disk) rests };
         count = tt;
+        as_many = λ runs. ap length frames ∙ sym (counted core.entries (Stands-own core)) ∙ sym (ap length entries);
         frames = λ runs told. frames ∙ frames_held (subst IsSome was_read.contents told);
       })
 

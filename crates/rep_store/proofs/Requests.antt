@@ -15,9 +15,11 @@ use Rattle.rep_wire.specs.declared.reply.Reply.{Reply}
 use Rattle.rep_wire.specs.declared.reply.Slip.{Slip}
 use Rattle.rep_core.specs.Answered.{entry_of, recorded_after, IsAnswer, IsReply}
 use Rattle.rep_core.specs.Core.{Kept}
+use Rattle.rep_core.specs.Valid.{IsFounded}
 use Rattle.rep_core.specs.Verdict.{IsVerdict}
 use Rattle.rep_core.specs.declared.verdict.Verdict.TheVariants.{Fresh}
 use Rattle.rep_core.proofs.Splits.{split_in}
+use Rattle.rep_journal.specs.Format.{IsJournalOf}
 use Rattle.rep_journal.specs.State.{IsRead, Leaves}
 use Rattle.rep_journal.specs.Recovery.{PutMoments, Puts}
 use Rattle.rep_ledger.specs.Ledger.{IsLedgerOf, frames_of, next_frame}
@@ -28,7 +30,7 @@ use Rattle.rep_site.specs.declared.site.Site.{Site}
 use Rattle.rep_store.specs.Device.{Device, PutsFrame, Reserves, StopsAtFrame}
 use Rattle.rep_store.specs.Fields.{IsWhole, state_of}
 use Rattle.rep_store.specs.State.{IsSettledOn}
-use Rattle.rep_store.specs.Steps.{IsLeftAt, Records, Stops, TakesReading, Ticks, recorded_at}
+use Rattle.rep_store.specs.Steps.{IsLeftAt, Records, StaysClosed, Stops, TakesReading, Ticks, recorded_at}
 use Rattle.rep_store.proofs.Contents.{told_after}
 use Rattle.rep_store.proofs.Parts.{IsWhole-put, IsWhole-stopped, contents_put, contents_stopped, entry_fits, settled_of, text_put}
 
@@ -86,6 +88,16 @@ module _ {D C : Type 0} (shown : D → Shown) (readings_of : C → Option (List 
   takes : TakesReading readings_of faults_of (state_of core device clock site reading) (state_of core'' device'' clock' site (Some minute))
   takes = record { minute = minute; clock = ticks; reading = refl; site = refl; limit = limit'' ∙ limit'; offset = refl }
 
+  -- until its gate is opened a crash leaves the history from before
+  StaysClosed-puts : Puts device'.frames (next_frame core'.entries (entry_of q now)) (shown device'.disk) (shown device''.disk) → StaysClosed core.entries (shown device.disk) (shown device''.disk)
+  StaysClosed-puts crash told below m image from early within leaves =
+      let told' = subst IsSome (sym reserved.disk.contents) told in
+      let closed = (crash told' below).closed m image (omega (arith, reserved.disk.moment)) (omega (arith, reserved.disk.moment)) within leaves in
+      record {
+        founded = subst IsFounded same whole.founded;
+        journal = subst (λ fs. IsJournalOf image fs) (whole.frames reserved.running told' ∙ ap frames_of same) closed;
+      }
+
   module _ (put : PutsFrame shown (next_frame core'.entries (entry_of q now)) device' device'') (entries : core''.entries ≡ recorded_after core'.entries q now) where
     pub whole_put : IsWhole shown core'' device'' site
     whole_put = IsWhole-put shown core' core'' device' device'' site q now whole reserved.running asked stamp fresh' limit'' entries put
@@ -112,6 +124,7 @@ module _ {D C : Type 0} (shown : D → Shown) (readings_of : C → Option (List 
           contents = contents_recorded;
           text = text_recorded;
           rest = put.appends.rest;
+          closed = StaysClosed-puts put.crash;
           calls = subst (λ m. AdvancesBy (2 * 4) m (shown device''.disk).moment) reserved.disk.moment put.appends.calls;
           own = (
             λ own. put.appends.own.0 ((IsRead-untouched (shown device.disk) (shown device'.disk) reserved.disk).own.0 own),
@@ -166,6 +179,7 @@ module _ {D C : Type 0} (shown : D → Shown) (readings_of : C → Option (List 
           contents = subst (λ o. Changes (λ _ bytes. IsLeftAt stops.stops.fails.failed core.entries (recorded_at core.entries q site.offset (Some minute)) bytes) o (shown device''.disk).contents) reserved.disk.contents
               (subst (λ h. Changes (λ _ bytes. IsLeftAt stops.stops.fails.failed core.entries h bytes) (shown device'.disk).contents (shown device''.disk).contents) with_entry
               (subst (λ h. Changes (λ _ bytes. IsLeftAt stops.stops.fails.failed h (recorded_after core'.entries q now) bytes) (shown device'.disk).contents (shown device''.disk).contents) same contents));
+          closed = StaysClosed-puts stops.crash;
           own = (
             λ own. stops.stops.own.0 ((IsRead-untouched (shown device.disk) (shown device'.disk) reserved.disk).own.0 own),
             λ own. (IsRead-untouched (shown device.disk) (shown device'.disk) reserved.disk).own.1 (stops.stops.own.1 own),

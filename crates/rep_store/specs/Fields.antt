@@ -33,4 +33,5 @@ pub record IsWhole {D : Type 0} (shown : D → Shown) (core : Kept) (device : De
   pub disk : IsKept device.stopped core.entries (shown device.disk)
   pub count : CountsStop device.stopped device.faults
   -- the journal goes on from the history's frames
+  pub as_many : device.stopped ≡ None → length device.frames ≡ length core.entries
   pub frames : device.stopped ≡ None → IsSome (shown device.disk).contents → device.frames ≡ frames_of core.entries

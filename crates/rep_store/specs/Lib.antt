@@ -1,8 +1,11 @@
 pub mod Founding
 pub mod Device
 pub mod Held
+pub mod Days
 pub mod State
 pub mod Fields
 pub mod Steps
 pub mod Making
 pub mod Outcome
+pub mod Extracting
+pub mod Filing

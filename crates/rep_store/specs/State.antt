@@ -8,6 +8,7 @@ use Rattle.rep_core.specs.Valid.{IsFounded}
 use Rattle.rep_site.specs.Site.{IsSite}
 use Rattle.rep_site.specs.declared.site.Site.{Site}
 use Rattle.rep_ledger.specs.Ledger.{IsLedgerOf, IsLedgerWithin}
+use Rattle.rep_ledger.specs.Safety.{IsFrontOf, IsImageOf}
 
 pub record State (D C : Type 0) : Type 0 where
   pub disk : D
@@ -24,7 +25,7 @@ pub record State (D C : Type 0) : Type 0 where
   pub faults : ℕ
   -- that count, where a failure stopped it
   pub stopped : Option ℕ
-  -- the reading of the clock that the last request took
+  -- the reading of the clock that the last request or extraction took
   pub reading : Option ℕ
 
 -- contents that are told keep the history
@@ -41,6 +42,10 @@ pub record IsOpenAfter (h : List Entry) (s : Shown) : Type 0 where
   pub holds : IfSome s.contents (IsLedgerWithin h)
   pub images : IsSome s.contents → s.moment < last_moment → (image : List ℕ) → s.may_leave s.moment image
       → IsLedgerWithin h image
+
+-- the image keeps a history that goes on from the one kept, and is a front of the whole one
+abbrev pub KeepsAFront : List Entry → List Entry → List ℕ → Type 0
+KeepsAFront kept whole image = (h : List Entry) × IsImageOf image h × IsFrontOf kept h × IsFrontOf h whole
 
 -- what the disk holds, by whether the store has stopped
 abbrev pub IsKept : Option ℕ → List Entry → Shown → Type 0

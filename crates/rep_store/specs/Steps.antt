@@ -1,10 +1,10 @@
 -- What a request does to a store: this project's own.
-use Rattle.std.specs.Prelude.{◌≡◌, ◌⊎◌, ◌↔◌, ℕ, ◌<◌, ◌≤◌, ℤ, List, [], ◌∷◌, Option, Some, None, Result, Ok, Err}
+use Rattle.std.specs.Prelude.{◌≡◌, ◌⊎◌, ◌↔◌, ℕ, ◌+◌, ◌<◌, ◌≤◌, ℤ, List, [], ◌∷◌, IsSome, Option, Some, None, Result, Ok, Err}
 use Rattle.std.specs.Io.KnownBytes.{append_known}
 use Rattle.rep_fields.specs.Moment.{moment_at}
 use Rattle.rep_io.specs.Causes.{Rose}
 use Rattle.rep_io.specs.Streams.{IsReading}
-use Rattle.rep_disk.specs.Disk.{Shown, Changes, IsAtRest, IsOwnImage}
+use Rattle.rep_disk.specs.Disk.{Shown, Changes, IsAtRest, IsOwnImage, last_moment}
 use Rattle.rep_disk.specs.Memory.{counted}
 use Rattle.rep_wire.specs.declared.request.Request.{Request}
 use Rattle.rep_wire.specs.declared.request.Entry.{Entry}
@@ -62,6 +62,12 @@ pub record TakesReading {D C : Type 0} (readings_of : C → Option (List ℕ)) (
   pub limit : new.limit ≡ old.limit
   pub offset : new.offset ≡ old.offset
 
+-- up to the end of two device calls a crash leaves the history from before, where the disk tells its contents
+abbrev pub StaysClosed : List Entry → Shown → Shown → Type 0
+StaysClosed h old new =
+    IsSome old.contents → new.moment < last_moment → (m : ℕ) (image : List ℕ) → old.moment ≤ m → m ≤ old.moment + 4
+    → m ≤ new.moment → new.may_leave m image → IsLedgerOf image h
+
 -- The request's entry was recorded at a reading of the clock, and the disk keeps the history with it.
 pub record Records {D C : Type 0} (shown : D → Shown) (readings_of : C → Option (List ℕ)) (faults_of : C → ℕ) (q : Request) (old new : State D C) : Type 0 where
   pub takes : TakesReading readings_of faults_of old new
@@ -71,6 +77,7 @@ pub record Records {D C : Type 0} (shown : D → Shown) (readings_of : C → Opt
   pub contents : Changes (λ _ bytes. IsLedgerOf bytes new.history) (shown old.disk).contents (shown new.disk).contents
   pub text : Leaves (frames_of new.history) (shown old.disk).contents (shown new.disk).contents
   pub rest : IsAtRest (shown new.disk)
+  pub closed : StaysClosed old.history (shown old.disk) (shown new.disk)
   pub calls : MakesCalls 4 (shown old.disk) (shown new.disk)
   pub own : IsOwnImage (shown old.disk) ↔ IsOwnImage (shown new.disk)
   pub disk_faults : (shown old.disk).faults ≤ (shown new.disk).faults
@@ -98,6 +105,7 @@ pub record Stops {D C : Type 0} (shown : D → Shown) (readings_of : C → Optio
   pub contents : Changes
       (λ _ bytes. IsLeftAt failed old.history (recorded_at old.history q old.offset new.reading) bytes)
       (shown old.disk).contents (shown new.disk).contents
+  pub closed : StaysClosed old.history (shown old.disk) (shown new.disk)
   pub own : IsOwnImage (shown old.disk) ↔ IsOwnImage (shown new.disk)
 
 -- The request was served: recorded where it was to be recorded, and else nothing changed. The reply is that over the

@@ -1,5 +1,5 @@
 //! The journal of a site, made on a blank disk.
-ghost use Rattle.std.specs.Prelude.{◌≡◌, [], MatchResult, IfOk, IfErr, IfSome};
+ghost use Rattle.std.specs.Prelude.{◌≡◌, ◌≤◌, [], MatchResult, IfOk, IfErr, IfSome};
 ghost use Rattle.rep_disk.specs.Disk.{IsAtRest};
 ghost use Rattle.rep_wire.specs.Request.{IsFounding};
 ghost use Rattle.rep_core.specs.Core.{Stands, IsLimit, IsReady};
@@ -8,6 +8,7 @@ ghost use Rattle.rep_journal.specs.Format.{IsBlank};
 ghost use Rattle.rep_ledger.specs.Safety.{IsSafe};
 ghost use Rattle.rep_store.specs.Making.{CrashesSafely, FoundsStore, FoundsNone};
 
+use crate::days::DayList;
 use crate::device::Device;
 use crate::error::{NoStore, StoreWhy};
 use crate::founding::founding_request;
@@ -73,27 +74,36 @@ impl<D: Disk, C: Clock> Store<D, C> {
             Err(none) => return Err(NoStore::of(none, clock)),
         };
         let request = founding_request(site);
-        let Ok(core) = founding_core(alloc, &request, site.last_nsr) else {
+        let Ok((core, days)) = founding_room(alloc, &request, site.last_nsr) else {
             return Err(NoStore {
                 disk: vacant.into_disk(),
                 clock,
                 why: StoreWhy::Journal(WhyNot::OutOfMemory),
             });
         };
-        found(core, &request, site, vacant, clock)
+        found(core, days, &request, site, vacant, clock)
     }
 }
 
-// A core with room for the founding request's entry.
-fn founding_core(alloc: Global, request: &Request, last_nsr: u32) -> Result<Core, OutOfMemory>
+// A core with room for the founding request's entry, and room for its day.
+fn founding_room(
+    alloc: Global,
+    request: &Request,
+    last_nsr: u32,
+) -> Result<(Core, DayList), OutOfMemory>
     requires { IsLimit last_nsr }
-    ensures stands { IfOk result (λ core. Stands core []) }
-    ensures limit { IfOk result (λ core. core.limit ≡ last_nsr) }
-    ensures ready { IfOk result (λ core. IsReady core request.now) }
+    ensures stands { IfOk result (λ r. Stands r.0 []) }
+    ensures limit { IfOk result (λ r. r.0.limit ≡ last_nsr) }
+    ensures ready { IfOk result (λ r. IsReady r.0 request.now) }
+    ensures days { IfOk result (λ r. (r.1.days ≡ []) × (1 ≤ r.1.room)) }
 {
     let mut core = Core::new(alloc, last_nsr);
+    let mut days = DayList::new(alloc);
     match core.reserve(request) {
-        Ok(()) => Ok(core),
+        Ok(()) => match days.reserve() {
+            Ok(()) => Ok((core, days)),
+            Err(full) => Err(full),
+        },
         Err(full) => Err(full),
     }
 }
@@ -101,6 +111,7 @@ fn founding_core(alloc: Global, request: &Request, last_nsr: u32) -> Result<Core
 // Makes the journal of a site, once there is memory for it.
 fn found<D: Disk, C: Clock>(
     core: Core,
+    days: DayList,
     request: &Request,
     site: &Site,
     vacant: Vacant<D>,
@@ -111,6 +122,8 @@ fn found<D: Disk, C: Clock>(
     requires stands { Stands core [] }
     requires ready { IsReady core request.now }
     requires limit { core.limit ≡ site.now.last_nsr }
+    requires days { days.days ≡ [] }
+    requires day_room { 1 ≤ days.room }
     requires blank { IfSome (D.shown vacant).contents IsBlank }
     ensures founded { IfOk result (FoundsStore D.shown C.readings C.faults site.now request.now vacant clock) }
     ensures refused { IfErr result (FoundsNone D.shown C.readings C.faults site.now request.now vacant clock) }
@@ -120,6 +133,7 @@ fn found<D: Disk, C: Clock>(
         (D.shown vacant) (D.shown e.disk)) }
 {
     let mut core = core;
+    let mut days = days;
     let mut clock = clock;
     let Ok(minute) = clock.now() else {
         return Err(NoStore {
@@ -135,8 +149,10 @@ fn found<D: Disk, C: Clock>(
     match Journal::create(vacant, &frame) {
         Ok(journal) => {
             core.accept(request, now);
+            days.push(now.day());
             Ok(Store {
                 core,
+                days,
                 device: Device::new(journal),
                 clock,
                 site: *site,

@@ -2,8 +2,10 @@
 ghost use Rattle.std.specs.Prelude.{◌≡◌, None, Some, is_some, IsTrue};
 ghost use Rattle.rep_store.specs.Held.{device_of_held};
 
+use afd_extract::{WriteFail, write_afd};
+use afd_records::Head;
 use rep_disk::Disk;
-use rep_io::OutOfMemory;
+use rep_io::{OutOfMemory, Sink};
 use rep_journal::{DeviceFault, Frame, Journal, Stopped};
 use std::marker::Model;
 use std::mem;
@@ -34,9 +36,13 @@ impl<D: Disk> Model for Device<D> {
 }
 
 impl<D: Disk> Device<D> {
-    ghost use Rattle.std.specs.Prelude.{◌≡◌, ◌≤◌, OnOk, OnErr, Some, None};
+    ghost use Rattle.std.specs.Prelude.{◌≡◌, ◌≤◌, IsSome, OnOk, OnErr, Some, None, Err};
+    ghost use Rattle.rep_io.specs.Causes.{Rose};
+    ghost use Rattle.afd_records.specs.File.{HasHeadText};
+    ghost use Rattle.afd_extract.specs.Extract.{IsRangeIn, WritesExtract, failed_by_device};
+    ghost use Rattle.rep_journal.specs.State.{IsSame};
     ghost use Rattle.rep_disk.specs.Disk.{IsUntouched};
-    ghost use Rattle.rep_store.specs.Device.{running, Reserves, PutsFrame, StopsAtFrame};
+    ghost use Rattle.rep_store.specs.Device.{running, journal_of, Reserves, PutsFrame, StopsAtFrame};
 
     /// A journal.
     pub fn new(journal: Journal<D>) -> Device<D>
@@ -91,6 +97,31 @@ impl<D: Disk> Device<D> {
                 fill(&mut self.held, Held::Ended(stop));
                 Err(DeviceFault)
             }
+        }
+    }
+
+    /// Writes the AFD of a range of the frames, with this head, and answers how many bytes it has.
+    pub fn write_afd<K: Sink>(
+        &mut self,
+        range: Option<(u32, u32)>,
+        head: &Head,
+        sink: &mut K,
+    ) -> Result<u64, WriteFail>
+        requires running { self.old.stopped ≡ None }
+        requires head { HasHeadText head.now }
+        requires range { IsRangeIn self.old.frames range }
+        ensures writes { WritesExtract head.now self.old.frames range (IsSome (D.shown self.old.disk).contents)
+            (K.written sink.old) (K.written sink.new) result }
+        ensures running { self.new.stopped ≡ None }
+        ensures journal { IsSame D.shown (failed_by_device result) (journal_of self.old) (journal_of self.new) }
+        ensures device_fault { result ≡ Err WriteFail.DeviceFault
+            → Rose (D.shown self.old.disk).faults (D.shown self.new.disk).faults }
+        ensures sink_later { K.faults sink.old ≤ K.faults sink.new }
+        ensures sink_fault { result ≡ Err WriteFail.SinkFault → Rose (K.faults sink.old) (K.faults sink.new) }
+    {
+        match &mut self.held {
+            Some(Held::Running(journal)) => write_afd(journal, range, head, sink),
+            Some(Held::Ended(_)) | None => unreachable!(),
         }
     }
 

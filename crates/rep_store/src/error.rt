@@ -37,6 +37,36 @@ impl<D, C> NoStore<D, C> {
     }
 }
 
+/// Why an extraction isn't whole.
+#[derive(Clone, Copy, Debug, PartialEq, Eq)]
+pub enum ExtractFail {
+    /// The store stopped before, when the disk failed while an entry was put.
+    Stopped {
+        /// How often the disk had failed for the store by then, the last time in that call.
+        faults: u64,
+    },
+    /// The clock failed in this call, and nothing was written.
+    ClockFault,
+    /// The sink failed in this call.
+    SinkFault,
+    /// The disk failed in this call.
+    DeviceFault,
+}
+
+/// Why there is no entry.
+#[derive(Clone, Copy, Debug, PartialEq, Eq)]
+pub enum SlipFail {
+    /// The history has no entry with that number.
+    NoSuchNsr,
+    /// The disk failed in this call.
+    DeviceFault,
+    /// The store stopped before, when the disk failed while an entry was put.
+    Stopped {
+        /// How often the disk had failed for the store by then, the last time in that call.
+        faults: u64,
+    },
+}
+
 /// Why a request has no reply.
 #[derive(Clone, Copy, Debug, PartialEq, Eq)]
 pub enum Stop {

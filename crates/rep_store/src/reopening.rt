@@ -2,6 +2,7 @@
 ghost use Rattle.std.specs.Prelude.{◌≡◌};
 ghost use Rattle.rep_store.specs.Outcome.{why_of};
 
+use crate::days::days_of;
 use crate::device::Device;
 use crate::error::{NoStore, StoreWhy};
 use crate::store::Store;
@@ -63,8 +64,16 @@ impl<D: Disk, C: Clock> Store<D, C> {
             Ok(core) => {
                 let mut core = core;
                 core.set_limit(site.last_nsr);
+                let Ok(days) = days_of(alloc, &core) else {
+                    return Err(NoStore {
+                        disk: journal.into_disk(),
+                        clock,
+                        why: StoreWhy::Journal(WhyNot::OutOfMemory),
+                    });
+                };
                 Ok(Store {
                     core,
+                    days,
                     device: Device::new(journal),
                     clock,
                     site: *site,

@@ -1,4 +1,5 @@
 //! The store.
+use crate::days::DayList;
 use crate::device::Device;
 use rep_core::Core;
 use rep_disk::Disk;
@@ -11,10 +12,12 @@ use std::mem;
 #[derive(Drop)]
 pub struct Store<D: Disk, C: Clock> {
     pub(crate) core: Core,
+    // the recording days of its entries
+    pub(crate) days: DayList,
     pub(crate) device: Device<D>,
     pub(crate) clock: C,
     pub(crate) site: Site,
-    // the reading of the clock that the last request took
+    // the reading of the clock that the last request or extraction took
     pub(crate) reading: Option<u32>,
 }
 
@@ -23,11 +26,12 @@ impl<D: Disk, C: Clock> Model for Store<D, C> {
 
     ghost Value = { State D C };
 
+    ghost use Rattle.rep_store.specs.Days.{AreDaysOf};
     ghost use Rattle.rep_store.specs.Fields.{IsWhole, state_of};
 
     ghost view = { λ s. state_of s.core s.device s.clock s.site s.reading };
 
-    ghost invariant = { λ s. IsWhole D.shown s.core s.device s.site };
+    ghost invariant = { λ s. IsWhole D.shown s.core s.device s.site × AreDaysOf s.core s.days };
 }
 
 impl<D: Disk, C: Clock> Store<D, C> {
@@ -49,8 +53,8 @@ impl<D: Disk, C: Clock> Store<D, C> {
         self.device.stopped()
     }
 
-    /// The reading of the clock, in minutes since 1970-01-01T00:00 UTC, that the last call of `submit` took. `None` where
-    /// it took none, or where there was no such call.
+    /// The reading of the clock, in minutes since 1970-01-01T00:00 UTC, that the last call of `submit` or `extract`
+    /// took. `None` where it took none, or where there was no such call.
     pub fn reading(&self) -> Option<u32>
         ensures { result ≡ self.now.reading }
     {
@@ -80,6 +84,7 @@ impl<D: Disk, C: Clock> Store<D, C> {
     {
         let Store {
             core: _,
+            days: _,
             device,
             clock,
             site: _,

@@ -1,6 +1,6 @@
 //! Requests, answered one after another.
-ghost use Rattle.std.specs.Prelude.{◌≡◌, ◌↔◌, ◌≤◌, List, length, OnOk, OnErr, None};
-ghost use Rattle.rep_fields.specs.Moment.{IsMoment};
+ghost use Rattle.std.specs.Prelude.{◌≡◌, ◌↔◌, ◌≤◌, ◌++◌, List, [], ◌∷◌, length, OnOk, OnErr, None};
+ghost use Rattle.rep_fields.specs.Moment.{IsMoment, day_of};
 ghost use Rattle.afd_records.specs.Record.{last_nsr};
 ghost use Rattle.rep_wire.specs.Request.{IsRequest};
 ghost use Rattle.rep_wire.specs.declared.request.Entry.{Entry};
@@ -10,6 +10,7 @@ ghost use Rattle.rep_core.specs.Answered.{entry_of, recorded_after};
 ghost use Rattle.rep_ledger.specs.Ledger.{next_frame};
 ghost use Rattle.rep_store.specs.Device.{PutsFrame, Reserves, StopsAtFrame};
 
+use crate::days::DayList;
 use crate::device::Device;
 use crate::error::Stop;
 use crate::store::Store;
@@ -78,7 +79,7 @@ impl<D: Disk, C: Clock> Store<D, C> {
             (receipts_of (D.shown self.new.disk).moment result) (D.shown self.old.disk) (D.shown self.new.disk) }
     {
         self.reading = None;
-        if take_room(&mut self.core, &mut self.device, q).is_err() {
+        if take_room(&mut self.core, &mut self.days, &mut self.device, q).is_err() {
             return Err(Stop::OutOfMemory);
         }
         let Ok(minute) = self.clock.now() else {
@@ -88,7 +89,7 @@ impl<D: Disk, C: Clock> Store<D, C> {
         let Some(now) = Stamp::at(minute, self.site.offset) else {
             unreachable!()
         };
-        if put_entry(&mut self.core, &mut self.device, q, now).is_err() {
+        if put_entry(&mut self.core, &mut self.days, &mut self.device, q, now).is_err() {
             return Err(Stop::DeviceFault);
         }
         Ok(self.core.receipt(q))
@@ -98,17 +99,21 @@ impl<D: Disk, C: Clock> Store<D, C> {
 // Takes the memory that recording a request needs.
 fn take_room<D: Disk>(
     core: &mut Core,
+    days: &mut DayList,
     device: &mut Device<D>,
     q: &Request,
 ) -> Result<(), OutOfMemory>
     requires { device.old.stopped ≡ None }
     ensures core { (h : List Entry) → Stands core.old h ↔ Stands core.new h }
     ensures limit { core.new.limit ≡ core.old.limit }
+    ensures days { days.new.days ≡ days.old.days }
     ensures device { Reserves D.shown device.old device.new }
     ensures ready { OnOk result (IsReady core.new q.now) }
+    ensures day_room { OnOk result (1 ≤ days.new.room) }
     ensures room { OnOk result (1 ≤ device.new.spare) }
 {
     core.reserve(q)?;
+    days.reserve()?;
     device.reserve()?;
     Ok(())
 }
@@ -116,12 +121,14 @@ fn take_room<D: Disk>(
 // Puts the entry of a request that is to be recorded, and records it once it is sure.
 fn put_entry<D: Disk>(
     core: &mut Core,
+    days: &mut DayList,
     device: &mut Device<D>,
     q: &Request,
     now: Stamp,
 ) -> Result<(), DeviceFault>
     requires running { device.old.stopped ≡ None }
     requires room { 1 ≤ device.old.spare }
+    requires day_room { 1 ≤ days.old.room }
     requires ready { IsReady core.old q.now }
     requires asked { IsRequest q.now }
     requires stamp { IsMoment now }
@@ -133,10 +140,13 @@ fn put_entry<D: Disk>(
         → IsVerdict core.new.limit h q.now (Verdict.Repeat (length h))) }
     ensures stopped { OnErr result ((h : List Entry) → Stands core.old h → Stands core.new h
         × StopsAtFrame D.shown (next_frame h (entry_of q.now now)) device.old device.new) }
+    ensures day { OnOk result (days.new.days ≡ days.old.days ++ day_of now ∷ []) }
+    ensures days { OnErr result (days.new.days ≡ days.old.days) }
     ensures limit { core.new.limit ≡ core.old.limit }
 {
     let frame = frame_of(core, q, now);
     device.put(&frame)?;
     core.accept(q, now);
+    days.push(now.day());
     Ok(())
 }

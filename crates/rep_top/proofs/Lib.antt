@@ -1,3 +1,4 @@
 mod Moved
 mod Rising
 mod Statuses
+mod Numbers

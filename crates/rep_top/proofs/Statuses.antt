@@ -1,8 +1,11 @@
--- `create` and `run` don't end by the status of wrong words
+-- `create`, `run`, `extract` and `receipt` don't end by the status of wrong words
 use Rattle.std.proofs.Common.{◌≢◌, arith}
 use Rattle.rep_report.specs.Saying.{status_of as ending_status}
 use Rattle.rep_report.specs.declared.ending.Ending.{Ending}
 use Rattle.rep_report.specs.declared.ending.Ending.TheVariants.{AllAnswered, SomeRefused, SourceFault, SinkFault, DeviceFault, ClockFault, OutOfMemory, InputLimit}
+use Rattle.rep_query.specs.Receipt.{none_status}
+use Rattle.rep_query.specs.declared.finding.NoReceipt.{NoReceipt}
+use Rattle.rep_query.specs.declared.finding.NoReceipt.TheVariants as none
 use Rattle.rep_run.specs.Creating.{status_of}
 use Rattle.rep_run.specs.declared.refusal.Refusal.TheVariants.{SiteText, SiteField, NoHead, Foreign, Blank, Present, Damaged}
 use Rattle.rep_run.specs.declared.stopping.Stopping.{Stopping}
@@ -27,3 +30,9 @@ stopping_isnt_two (Refused Blank) e = omega arith
 stopping_isnt_two (Refused Present) e = omega arith
 stopping_isnt_two (Refused (Damaged at)) e = omega arith
 stopping_isnt_two (Ended ending) e = ending_isnt_two ending e
+
+pub none_isnt_two : (why : NoReceipt) → none_status why ≢ 2
+none_isnt_two none.NoSuchNsr e = omega arith
+none_isnt_two none.NotAClocking e = omega arith
+none_isnt_two none.DeviceFault e = omega arith
+none_isnt_two none.OutOfMemory e = omega arith

@@ -1,5 +1,9 @@
 -- Each command over a rig: what it does to the parts that it works on, and when all of it can be done.
 use Rattle.std.specs.Prelude.{◌≡◌, ℕ, List, IfSome, Some, ℤ}
+use Rattle.afd_records.specs.Record.{IsClocking}
+use Rattle.rep_wire.specs.declared.request.Entry.{Entry}
+use Rattle.rep_core.specs.History.{IsNumbered}
+use Rattle.rep_ledger.specs.Ledger.{IsLedgerOf}
 use Rattle.rep_disk.specs.Disk.{IsAtRest}
 use Rattle.rep_journal.specs.Format.{IsBlank}
 use Rattle.rep_site.specs.declared.site.Site.{Site}
@@ -8,7 +12,11 @@ use Rattle.rep_print.specs.Written.{Printed}
 use Rattle.rep_run.specs.Settings.{SaysSite}
 use Rattle.rep_run.specs.Creating as creating
 use Rattle.rep_run.specs.Running as running
-use Rattle.rep_words.specs.Rigged.{PrintRig, CreateRig, RunRig}
+use Rattle.rep_query.specs.Extract as extracting
+use Rattle.rep_query.specs.Opening as opening
+use Rattle.rep_query.specs.Giving.{Answered}
+use Rattle.rep_words.specs.Rigged.{PrintRig, CreateRig, RunRig, ExtractRig, ReceiptRig}
+use Rattle.rep_words.specs.declared.period.Period.{Period}
 use Rattle.rep_words.specs.declared.rig.Rig.{Rig}
 use Rattle.rep_top.specs.Program.{Sense}
 
@@ -112,3 +120,73 @@ pub record CanRun {S K D C : Type 0} (sense : Sense S K D C) (rig : Rig S K D C)
   pub contents : List ℕ
   pub there : (sense.shown parts.drive).contents ≡ Some contents
   pub servable : running.IsServable site_text lane_text contents
+
+-- `extract`
+
+abbrev pub IsExtractRig : {S K D C : Type 0} → Rig S K D C → Type 0
+IsExtractRig rig = ExtractRig rig.texts.items rig.outs.items rig.disk rig.clock
+
+-- what is seen of the parts of `extract`
+abbrev pub extract_sense : {S K D C : Type 0} → Sense S K D C → extracting.Meanings S K D C
+extract_sense sense = record {
+  left = sense.left;
+  source_faults = sense.source_faults;
+  shown = sense.shown;
+  readings = sense.readings;
+  clock_faults = sense.clock_faults;
+  written = sense.written;
+  sink_faults = sense.sink_faults;
+}
+
+abbrev pub extract_parts : {S K D C : Type 0} → (rig : Rig S K D C) → IsExtractRig rig → extracting.Parts S K D C
+extract_parts rig parts = record { site = parts.site; disk = parts.drive; clock = parts.watch; file = parts.file }
+
+abbrev pub ExtractsOver : {S K D C : Type 0} → Period → Sense S K D C → Rig S K D C → Rig S K D C → ℕ → Type 0
+ExtractsOver period sense old new status =
+    (before : IsExtractRig old) → (after : IsExtractRig new)
+    → extracting.Extracted (extract_sense sense) period.from period.to (extract_parts old before) (extract_parts new after)
+    (sense.written old.out) (sense.written new.out) (sense.sink_faults old.out) (sense.sink_faults new.out) status
+
+-- the text is a site's, and the disk keeps a history
+pub record CanExtract {S K D C : Type 0} (sense : Sense S K D C) (rig : Rig S K D C) : Type 0 where
+  pub parts : IsExtractRig rig
+  pub text : List ℕ
+  pub told : sense.left parts.site ≡ Some text
+  pub site : Site
+  pub said : SaysSite text site
+  pub contents : List ℕ
+  pub there : (sense.shown parts.drive).contents ≡ Some contents
+  pub history : List Entry
+  pub keeps : IsLedgerOf contents history
+
+-- `receipt`
+
+abbrev pub IsReceiptRig : {S K D C : Type 0} → Rig S K D C → Type 0
+IsReceiptRig rig = ReceiptRig rig.texts.items rig.outs.items rig.disk rig.clock
+
+abbrev pub receipt_sense : {S K D C : Type 0} → Sense S K D C → opening.Meanings S D
+receipt_sense sense = record { left = sense.left; source_faults = sense.source_faults; shown = sense.shown }
+
+abbrev pub receipt_inputs : {S K D C : Type 0} → (rig : Rig S K D C) → IsReceiptRig rig → opening.Inputs S D
+receipt_inputs rig parts = record { site = parts.site; disk = parts.drive }
+
+abbrev pub AnswersOver : {S K D C : Type 0} → ℕ → Sense S K D C → Rig S K D C → Rig S K D C → ℕ → Type 0
+AnswersOver nsr sense old new status =
+    (before : IsReceiptRig old) → (after : IsReceiptRig new)
+    → Answered (receipt_sense sense) nsr (receipt_inputs old before) (receipt_inputs new after)
+    (sense.written old.out) (sense.written new.out) (sense.sink_faults old.out) (sense.sink_faults new.out) status
+
+-- the text is a site's, and the disk keeps a history with a clocking of this number
+pub record CanAnswer {S K D C : Type 0} (nsr : ℕ) (sense : Sense S K D C) (rig : Rig S K D C) : Type 0 where
+  pub parts : IsReceiptRig rig
+  pub text : List ℕ
+  pub told : sense.left parts.site ≡ Some text
+  pub site : Site
+  pub said : SaysSite text site
+  pub contents : List ℕ
+  pub there : (sense.shown parts.drive).contents ≡ Some contents
+  pub history : List Entry
+  pub keeps : IsLedgerOf contents history
+  pub entry : Entry
+  pub numbered : IsNumbered history nsr entry
+  pub clocking : IsClocking entry.body

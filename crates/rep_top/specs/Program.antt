@@ -4,6 +4,7 @@ use Rattle.rep_io.specs.Causes.{Rose}
 use Rattle.rep_disk.specs.Disk.{Shown}
 use Rattle.rep_report.specs.Report.{fault_text}
 use Rattle.rep_report.specs.Saying.{SaysLine}
+use Rattle.rep_query.specs.Lines.{dates_fault}
 use Rattle.rep_words.specs.Rigged.{IsRigged}
 use Rattle.rep_words.specs.declared.rig.Rig.{Rig}
 use Rattle.rep_words.specs.declared.words.Asked.{Asked}
@@ -70,12 +71,20 @@ pub record NothingFailed {S K D C : Type 0} (sense : Sense S K D C) (old new : R
   pub disk : DiskFailed sense old new → ⊥
   pub clock : ClockFailed sense old new → ⊥
 
--- The words are those of no command: the texts, the files, the disk and the clock stayed as they were, and it was said
--- that the words are wrong, wholly where the output didn't fail.
-pub record Refuses {S K D C : Type 0} (sense : Sense S K D C) (old new : Rig S K D C) : Type 0 where
+-- The words are refused: the texts, the files, the disk and the clock stayed as they were, and this line was said, wholly
+-- where the output didn't fail.
+pub record RefusesWith {S K D C : Type 0} (line : List ℕ) (sense : Sense S K D C) (old new : Rig S K D C) : Type 0 where
   pub texts : new.texts.items ≡ old.texts.items
   pub outs : new.outs.items ≡ old.outs.items
   pub disk : new.disk ≡ old.disk
   pub clock : new.clock ≡ old.clock
-  pub says : SaysLine (fault_text 2) (sense.written old.out) (sense.written new.out)
+  pub says : SaysLine line (sense.written old.out) (sense.written new.out)
       (Rose (sense.sink_faults old.out) (sense.sink_faults new.out))
+
+-- the words are those of no command
+abbrev pub Refuses : {S K D C : Type 0} → Sense S K D C → Rig S K D C → Rig S K D C → Type 0
+Refuses sense old new = RefusesWith (fault_text 2) sense old new
+
+-- the words are a command's, but name no period
+abbrev pub RefusesDates : {S K D C : Type 0} → Sense S K D C → Rig S K D C → Rig S K D C → Type 0
+RefusesDates sense old new = RefusesWith dates_fault sense old new

@@ -3,12 +3,20 @@
 #![tactic(auto)]
 
 mod creating;
+mod extracting;
+mod giving;
+#[cfg(test)]
+mod journal_tests;
 mod printing;
 mod program;
+#[cfg(test)]
+mod query_tests;
 mod running;
 #[cfg(test)]
 mod tests;
 mod wrong_words;
 
 pub use program::top;
-pub use rep_words::{Asked, Command, Errand, Outcome, Rig, WordsFault, asked_of, plan_words};
+pub use rep_words::{
+    Asked, Command, Errand, Outcome, Period, Rig, WordsFault, asked_of, plan_words,
+};

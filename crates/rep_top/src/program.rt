@@ -1,12 +1,15 @@
-ghost use Rattle.std.specs.Prelude.{◌≡◌, ◌≢◌, ◌⊎◌, ℤ, map, string_bytes};
-ghost use Rattle.rep_words.specs.Words.{Asks, IsCreate, IsOnGrammar, IsPrint, IsRun};
-ghost use Rattle.rep_top.specs.Program.{ClockFailed, DiskFailed, IsRiggedFor, NothingFailed, Refuses, SinkFailed, SourceFailed, sense_of};
-ghost use Rattle.rep_top.specs.Commands.{CanCreate, CanPrint, CanRun, CreatesOver, CreatesSafely, LeavesFile, PrintsOver, RunsOver};
+ghost use Rattle.std.specs.Prelude.{◌≡◌, ◌≢◌, ◌⊎◌, ℕ, ℤ, None, Some, map, string_bytes};
+ghost use Rattle.rep_words.specs.Words.{Asks, IsCreate, IsExtract, IsOnGrammar, IsPrint, IsReceipt, IsRun};
+ghost use Rattle.rep_words.specs.declared.period.Period.{Period};
+ghost use Rattle.rep_top.specs.Program.{ClockFailed, DiskFailed, IsRiggedFor, NothingFailed, Refuses, RefusesDates, SinkFailed, SourceFailed, sense_of};
+ghost use Rattle.rep_top.specs.Commands.{AnswersOver, CanAnswer, CanCreate, CanExtract, CanPrint, CanRun, CreatesOver, CreatesSafely, ExtractsOver, LeavesFile, PrintsOver, RunsOver};
 
 use crate::creating::create_over;
+use crate::extracting::extract_over;
+use crate::giving::receipt_over;
 use crate::printing::print_over;
 use crate::running::run_over;
-use crate::wrong_words::refuse;
+use crate::wrong_words::{refuse, refuse_period};
 use rep_disk::Disk;
 use rep_io::{Clock, Sink, Source};
 use rep_words::{Asked, Outcome, Rig, asked_of};
@@ -42,6 +45,18 @@ pub fn top<S: Source, K: Sink, D: Disk, C: Clock>(
     // entries, however the lane ends; and a crash in the call leaves a front of it that has each entry with a receipt.
     ensures ran { IsRun (map string_bytes words.now) → RunsOver (sense_of S.left S.faults K.written K.faults D.shown C.readings C.faults) rig result.rig result.status }
 
+    // `extract`: the AFD of the period was written, out of the history that the disk keeps, at a reading of the clock, however
+    // it ends; the journal was only made sure of and read. Where FROM and TO name no period, nothing is touched.
+    ensures extracted { (period : Period) → IsExtract (map string_bytes words.now) (Some period)
+        → ExtractsOver period (sense_of S.left S.faults K.written K.faults D.shown C.readings C.faults) rig result.rig result.status }
+    ensures misdated { IsExtract (map string_bytes words.now) None → result.status ≡ 3 }
+    ensures undated { IsExtract (map string_bytes words.now) None → RefusesDates (sense_of S.left S.faults K.written K.faults D.shown C.readings C.faults) rig result.rig }
+
+    // `receipt`: what is written to the output is the receipt of the clocking with the number in the history that the disk
+    // keeps, or that there is none, however it ends; the journal was only made sure of and read.
+    ensures answered { (nsr : ℕ) → IsReceipt (map string_bytes words.now) nsr
+        → AnswersOver nsr (sense_of S.left S.faults K.written K.faults D.shown C.readings C.faults) rig result.rig result.status }
+
     // A fault of the outside is told only where that object's count rose in this call.
     ensures source_fault { result.status ≡ 4 → SourceFailed (sense_of S.left S.faults K.written K.faults D.shown C.readings C.faults) rig result.rig }
     ensures sink_fault { result.status ≡ 5 → SinkFailed (sense_of S.left S.faults K.written K.faults D.shown C.readings C.faults) rig result.rig }
@@ -61,11 +76,26 @@ pub fn top<S: Source, K: Sink, D: Disk, C: Clock>(
         → CanRun (sense_of S.left S.faults K.written K.faults D.shown C.readings C.faults) rig
         → NothingFailed (sense_of S.left S.faults K.written K.faults D.shown C.readings C.faults) rig result.rig
         → (result.status ≡ 0) ⊎ (result.status ≡ 1) ⊎ (result.status ≡ 8) }
+    ensures extracts_all { (period : Period) → IsExtract (map string_bytes words.now) (Some period)
+        → CanExtract (sense_of S.left S.faults K.written K.faults D.shown C.readings C.faults) rig
+        → NothingFailed (sense_of S.left S.faults K.written K.faults D.shown C.readings C.faults) rig result.rig
+        → (result.status ≡ 0) ⊎ (result.status ≡ 8) }
+    ensures answers_all { (nsr : ℕ) → IsReceipt (map string_bytes words.now) nsr
+        → CanAnswer nsr (sense_of S.left S.faults K.written K.faults D.shown C.readings C.faults) rig
+        → NothingFailed (sense_of S.left S.faults K.written K.faults D.shown C.readings C.faults) rig result.rig
+        → (result.status ≡ 0) ⊎ (result.status ≡ 8) }
 {
     match asked_of(words) {
         Some(Asked::Print { zone }) => print_over(alloc, zone, rig),
         Some(Asked::Create) => create_over(alloc, rig),
         Some(Asked::Run) => run_over(alloc, rig),
+        Some(
+            Asked::Extract {
+                period: Some(period),
+            },
+        ) => extract_over(alloc, period, rig),
+        Some(Asked::Extract { period: None }) => refuse_period(rig),
+        Some(Asked::Receipt { nsr }) => receipt_over(alloc, nsr, rig),
         None => refuse(rig),
     }
 }

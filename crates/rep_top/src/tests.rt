@@ -177,6 +177,54 @@ pub(crate) fn run(
     Ok(top(alloc, &words, rig))
 }
 
+/// What `extract` leaves of a site's text and a disk.
+pub(crate) fn extract(
+    alloc: Global,
+    contents: &[u8],
+    from: &str,
+    to: &str,
+    minute: u32,
+    failing: &Failing,
+) -> Result<MemOutcome, Fail>
+    requires { IsReading minute }
+{
+    let words = words_of(alloc, &["extract", "site", "j", from, to, "afd"])?;
+    let site = source_of(alloc, &[SITE], failing.site)?;
+    let rig = Rig {
+        texts: vec![in alloc; site]?,
+        outs: vec![in alloc; MemSink::new(alloc, 4096, failing.file.to_vec(alloc)?)?]?,
+        disk: Some(disk_of(alloc, contents, failing)?),
+        clock: Some(clock_of(alloc, &[minute], failing.clock)?),
+        out: MemSink::new(alloc, 4096, failing.out.to_vec(alloc)?)?,
+    };
+    let Some(Asked::Extract { period }) = asked_of(&words) else {
+        return Err("not the words of extract".into());
+    };
+    let _period = period;
+    Ok(top(alloc, &words, rig))
+}
+
+/// What `receipt` leaves of a site's text and a disk.
+pub(crate) fn receipt(
+    alloc: Global,
+    contents: &[u8],
+    number: &str,
+    failing: &Failing,
+) -> Result<MemOutcome, Fail> {
+    let words = words_of(alloc, &["receipt", "site", "j", number])?;
+    let rig = Rig {
+        texts: vec![in alloc; source_of(alloc, &[SITE], failing.site)?]?,
+        outs: Vec::new(alloc),
+        disk: Some(disk_of(alloc, contents, failing)?),
+        clock: None,
+        out: MemSink::new(alloc, 4096, failing.out.to_vec(alloc)?)?,
+    };
+    let Some(Asked::Receipt { .. }) = asked_of(&words) else {
+        return Err("not the words of receipt".into());
+    };
+    Ok(top(alloc, &words, rig))
+}
+
 /// The bytes of the AFD's file or of the replies, none where there is no file.
 pub(crate) fn file_of(outcome: &MemOutcome) -> &[u8] {
     match outcome.rig.outs.first() {
@@ -236,6 +284,12 @@ fn words_of_no_command_are_told_and_nothing_is_touched(rt: HostRuntime) -> Resul
         (&["create", "site", "j", "more"], "a word more"),
         (&["run", "site", "j"], "no lane"),
         (&["run", "site", "", "lane"], "an empty path"),
+        (
+            &["extract", "site", "j", "2024-03-04", "out"],
+            "no last day",
+        ),
+        (&["receipt", "site", "j", "000"], "no number of a record"),
+        (&["receipt", "site", "j", "0000000003"], "ten digits"),
     ];
     for (words, message) in rows {
         let words = words_of(alloc, *words)?;

@@ -1,6 +1,7 @@
 -- What the fields behind a line's second ask, or the first of them that is off its kind.
-use Rattle.std.proofs.Common.{◌≡◌, ℕ, false, List, [], ◌∷◌, Option, Some, refl, sym, subst, codes, arith}
+use Rattle.std.proofs.Common.{◌≡◌, ◌≤◌, ℕ, false, List, [], ◌∷◌, Option, Some, refl, sym, subst, ◌∙◌, codes, arith}
 use Rattle.std.specs.Str.{bytes_eq}
+use Rattle.rep_fields.specs.Calendar.{IsDay, day_text}
 use Rattle.rep_fields.specs.Latin.{IsText, IsFilled}
 use Rattle.rep_fields.specs.Employer.{IsEmployerId}
 use Rattle.rep_fields.specs.Identity.{IsCpf, cpf_text}
@@ -13,7 +14,9 @@ use Rattle.rep_wire.specs.Asking.{Asks, IsFault}
 use Rattle.rep_wire.specs.declared.asking.Fault.TheVariants.{Number, Field}
 use Rattle.rep_wire.specs.declared.letter.Letter.TheVariants as letter
 use Rattle.rep_wire.specs.declared.request.Ask.TheVariants.{Employer, Worker}
+use Rattle.rep_fields.proofs.StampTexts.{day_text-injective}
 use Rattle.rep_wire.proofs.FieldLemmas.{fields_of-some, EachHasNoBar, EachHasNoBar-behind, HasNoBar-filled}
+use Rattle.rep_wire.proofs.GrammarLemmas.{off_here, off_behind}
 
 -- a clocking whose fourth field isn't `1` has no fifth
 pub no_fifth : (behind : List (List ℕ)) (cpf mode text : List ℕ) → behind ≡ cpf ∷ mode ∷ fields_behind (Some text)
@@ -96,3 +99,16 @@ worker_asked text op_there cpf_there name_text extra_text resp_text op cpf name 
       of_letter = refl;
       said = (said.done, said.whom.1, said.named.1, said.further.1, said.by.1);
     })
+
+-- a last day that isn't one, or is before the first
+pub last_day_fault : (behind : List (List ℕ)) (from to : List ℕ) (first : ℕ) → behind ≡ from ∷ to ∷ []
+    → IsDay first → from ≡ day_text first
+    → ((day : ℕ) → IsDay day × (first ≤ day) → to ≡ day_text day → ⊥)
+    → IsFault letter.Extract behind (Field 4)
+last_day_fault behind from to first is in_range said none =
+    subst (λ (fields : List (List ℕ)). IsFault letter.Extract fields (Field 4)) (sym is) (
+      refl,
+      off_behind (first, in_range, said) (off_here (λ period.
+          let same : period.0 ≡ first = day_text-injective period.0 first period.2 in_range (sym period.5 ∙ said) in
+          none period.1 (period.3, subst (λ (d : ℕ). d ≤ period.1) same period.4) period.6) refl),
+    )

@@ -1,16 +1,19 @@
 -- A line orders one thing at most, and a line that orders something isn't malformed.
-use Rattle.std.proofs.Common.{◌≡◌, ℕ, inl, inr, List, [], ◌∷◌, length, Option, Some, None, refl, sym, ap, ◌∙◌, subst, arith, Result, Ok, Err, IfOk, IfErr}
+use Rattle.std.proofs.Common.{◌≡◌, ◌≤◌, ℕ, inl, inr, List, [], ◌∷◌, length, Option, Some, None, refl, sym, ap, ◌∙◌, subst, arith, decimal, Result, Ok, Err, IfOk, IfErr}
 use Rattle.rep_fields.specs.Moment.{Moment}
-use Rattle.rep_fields.proofs.StampTexts.{moment_text-injective}
+use Rattle.rep_fields.proofs.StampTexts.{day_text-injective, moment_text-injective}
 use Rattle.rep_fields.specs.Employer.{kind_byte}
 use Rattle.rep_fields.specs.declared.employer.EmployerId.{EmployerId}
 use Rattle.rep_fields.specs.declared.employer.EmployerId.TheVariants.{Cnpj, Person}
 use Rattle.afd_records.specs.declared.record.Op.{Op}
 use Rattle.rep_wire.specs.Fields.{fields_of}
-use Rattle.rep_wire.specs.Request.{IsAsk}
-use Rattle.rep_wire.specs.LaneGrammar.{kinds_of, IsField, IsFirstOff, letter_of, SaysAsk, Says, HasCollector, IsAskedOn, IsFaultAt, IsRefused, IsMalformed, IsOffGrammar, Orders, employer_kind_field}
+use Rattle.rep_io.specs.Lines.{longest_line}
+use Rattle.rep_wire.specs.Request.{IsOrigin, IsSeq, IsAsk}
+use Rattle.rep_wire.specs.LaneGrammar.{IsLaneHead, letter_text, MaySend, kinds_of, IsField, IsFirstOff, letter_of, SaysAsk, Says, HasCollector, IsAskedOn, IsExtractedOn, IsFaultAt, IsRefused, IsMalformed, IsOffGrammar, Orders, employer_kind_field}
+use Rattle.rep_wire.specs.Asking.{CutsSeq, OrdersBehind}
 use Rattle.rep_wire.specs.declared.head.LaneHead.{LaneHead}
 use Rattle.rep_wire.specs.declared.letter.Letter.{Letter}
+use Rattle.rep_wire.specs.declared.letter.Letter.TheVariants as letter
 use Rattle.rep_wire.specs.declared.request.Ask.{Ask}
 use Rattle.rep_wire.specs.declared.request.Ask.TheVariants.{Mark, Employer, Worker, Adjust, Event}
 use Rattle.rep_wire.specs.declared.request.Request.{Request}
@@ -71,12 +74,30 @@ not_refused head q (first ∷ second ∷ behind) number asked said (inr refused)
         no_field_off q.ask behind number asked.request.ask said.2 (past off.1 (q.seq, asked.request.seq, said.1))
 not_refused head q _ number asked said fault = absurd said
 
+-- an extraction's fields aren't refused
+not_refused_period : (head : LaneHead) (seq from to : ℕ) (fields : List (List ℕ)) (number : ℕ) → IsExtractedOn head seq from to
+    → Says (Extract seq from to) fields → IsFaultAt head fields number → ⊥
+not_refused_period head seq from to (first ∷ second ∷ third ∷ fourth ∷ []) number ordered said (inl no_letter) =
+    no_letter.0 letter.Extract ordered.allowed said.0
+not_refused_period head seq from to (first ∷ second ∷ third ∷ fourth ∷ []) number ordered said (inr refused) =
+    let same : refused.0 ≡ letter.Extract = letter_text-injective refused.0 letter.Extract (sym refused.2 ∙ said.0) in
+    at_letter (subst (λ (l : Letter). IsRefused l (second ∷ third ∷ fourth ∷ []) number) same refused.3)
+  where
+    at_letter : IsRefused letter.Extract (second ∷ third ∷ fourth ∷ []) number → ⊥
+    at_letter (inl number_wrong) = number_wrong.0 refl
+    at_letter (inr off) =
+        past (past (past off.1 (seq, ordered.numbered, said.1)) (from, ordered.first, said.2))
+        (from, to, ordered.first, ordered.last, ordered.in_order, said.2, said.3)
+not_refused_period head seq from to _ number ordered said fault = absurd said
+
 pub not_malformed : (head : LaneHead) (line : List ℕ) (order : Order) (malformed : Malformed) → Orders head line order
     → IsMalformed head line malformed → ⊥
 not_malformed head line (Asked q) malformed ordered (inl long) = omega (arith, long.0, ordered.short)
 not_malformed head line (Asked q) malformed ordered (inr off) =
     not_refused head q (fields_of line) malformed.field ordered.in_range ordered.said off.field
-not_malformed head line (Extract seq from to) malformed ordered refused = ordered.in_range.allowed
+not_malformed head line (Extract seq from to) malformed ordered (inl long) = omega (arith, long.0, ordered.short)
+not_malformed head line (Extract seq from to) malformed ordered (inr off) =
+    not_refused_period head seq from to (fields_of line) malformed.field ordered.in_range ordered.said off.field
 
 -- one list of fields asks one thing
 marks_agree : (head : LaneHead) (cpf cpf' collector collector' : ℕ) (at at' : Option Moment) (behind : List (List ℕ))
@@ -157,12 +178,77 @@ requests_agree head p q (first ∷ second ∷ behind) p_asked q_asked p_said q_s
     ap Asked same
 requests_agree head p q _ p_asked q_asked p_said q_said = absurd p_said
 
+periods_agree : (head : LaneHead) (seq seq' from from' to to' : ℕ) (fields : List (List ℕ)) → IsExtractedOn head seq from to → IsExtractedOn head seq' from' to'
+    → Says (Extract seq from to) fields → Says (Extract seq' from' to') fields → Extract seq from to ≡ Extract seq' from' to'
+periods_agree head seq seq' from from' to to' (first ∷ second ∷ third ∷ fourth ∷ []) range range' said said' =
+    let seqs = seq-injective seq seq' range.numbered range'.numbered (sym said.1 ∙ said'.1) in
+    let firsts = day_text-injective from from' range.first range'.first (sym said.2 ∙ said'.2) in
+    let lasts = day_text-injective to to' range.last range'.last (sym said.3 ∙ said'.3) in cc
+periods_agree head seq seq' from from' to to' _ range range' said said' = absurd said
+
+-- no letter of a request is that of an extraction
+letter_of-asks : (ask : Ask) → letter_of ask ≡ letter.Extract → ⊥
+letter_of-asks (Mark cpf collector at) same = cc
+letter_of-asks (Employer resp id cno name place) same = cc
+letter_of-asks (Worker op cpf name extra resp) same = cc
+letter_of-asks (Adjust before resp) same = cc
+letter_of-asks (Event code) same = cc
+
+not_both : (q : Request) (seq from to : ℕ) (fields : List (List ℕ)) → Says (Asked q) fields → Says (Extract seq from to) fields → ⊥
+not_both q seq from to (first ∷ second ∷ third ∷ fourth ∷ []) asked extracted =
+    letter_of-asks q.ask (letter_text-injective (letter_of q.ask) letter.Extract (sym asked.0 ∙ extracted.0))
+not_both q seq from to _ asked extracted = absurd extracted
+
 -- a line orders one thing at most
 pub orders_agree : (head : LaneHead) (line : List ℕ) (a b : Order) → Orders head line a → Orders head line b → a ≡ b
 orders_agree head line (Asked p) (Asked q) a_ordered b_ordered =
     requests_agree head p q (fields_of line) a_ordered.in_range b_ordered.in_range a_ordered.said b_ordered.said
-orders_agree head line (Extract seq from to) b a_ordered b_ordered = absurd a_ordered.in_range.allowed
-orders_agree head line (Asked p) (Extract seq from to) a_ordered b_ordered = absurd b_ordered.in_range.allowed
+orders_agree head line (Extract seq from to) (Extract seq' from' to') a_ordered b_ordered =
+    periods_agree head seq seq' from from' to to' (fields_of line) a_ordered.in_range b_ordered.in_range a_ordered.said b_ordered.said
+orders_agree head line (Extract seq from to) (Asked q) a_ordered b_ordered =
+    absurd (not_both q seq from to (fields_of line) b_ordered.said a_ordered.said)
+orders_agree head line (Asked p) (Extract seq from to) a_ordered b_ordered =
+    absurd (not_both p seq from to (fields_of line) a_ordered.said b_ordered.said)
+
+-- what the fields behind the second order is what the line orders
+pub orders_from : (head : LaneHead) (line first : List ℕ) (fields : List (List ℕ)) (sent : Letter) (seq : ℕ) (behind : List (List ℕ)) (order : Order)
+    → IsLaneHead head → length line ≤ longest_line → fields_of line ≡ first ∷ fields → MaySend head sent → first ≡ letter_text sent
+    → CutsSeq fields (Some seq) behind → OrdersBehind head sent seq behind order → Orders head line order
+orders_from head line first [] sent seq behind order is_head short is allowed is_letter cuts ordered = absurd (is_none cuts.0)
+  where
+    is_none : Some seq ≡ None → ⊥
+    is_none same = cc
+orders_from head line first (second ∷ rest) sent seq behind (Asked q) is_head short is allowed is_letter cuts ordered = record {
+  short = short;
+  in_range = record {
+    request = record {
+      origin = subst IsOrigin (sym ordered.2) is_head.origin;
+      seq = subst IsSeq (sym ordered.3) cuts.0.0;
+      ask = ordered.0.in_range;
+    };
+    origin = ordered.2;
+    allowed = subst (MaySend head) (sym ordered.0.of_letter) allowed;
+    collector = ordered.1;
+  };
+  said = subst (Says (Asked q)) (sym is) (
+    is_letter ∙ ap letter_text (sym ordered.0.of_letter),
+    cuts.0.1 ∙ ap decimal (sym ordered.3),
+    subst (SaysAsk q.ask) cuts.1 ordered.0.said,
+  );
+}
+orders_from head line first (second ∷ rest) sent seq behind (Extract number from to) is_head short is allowed is_letter cuts ordered = record {
+  short = short;
+  in_range = record {
+    allowed = subst (MaySend head) ordered.0 allowed;
+    numbered = subst IsSeq (sym ordered.1) cuts.0.0;
+    first = ordered.2.first;
+    last = ordered.2.last;
+    in_order = ordered.2.in_order;
+  };
+  said = subst (Says (Extract number from to))
+      (sym (is ∙ ap (λ (b : List (List ℕ)). first ∷ second ∷ b) (sym cuts.1 ∙ ordered.2.said)))
+      (is_letter ∙ ap letter_text ordered.0, cuts.0.1 ∙ ap decimal (sym ordered.1), refl, refl);
+}
 
 -- so an answer that is right is the only one
 pub only_answer : (head : LaneHead) (line : List ℕ) (result : Result Order Malformed) → IfOk result (Orders head line)

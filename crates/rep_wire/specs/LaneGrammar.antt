@@ -52,10 +52,6 @@ letter_text letter.Adjust = codes "T"
 letter_text letter.Event = codes "V"
 letter_text letter.Extract = codes "X"
 
--- the lanes whose lines may order an extraction: there are none yet
-abbrev pub TakesExtractions : LaneHead → Type 0
-TakesExtractions head = ⊥
-
 -- the letters that a lane's lines may have: each lane has clockings, the others are the operator's
 abbrev pub MaySend : LaneHead → Letter → Type 0
 MaySend head letter.Mark = Unit {0}
@@ -63,7 +59,7 @@ MaySend head letter.Employer = head.kind ≡ operator
 MaySend head letter.Worker = head.kind ≡ operator
 MaySend head letter.Adjust = head.kind ≡ operator
 MaySend head letter.Event = head.kind ≡ operator
-MaySend head letter.Extract = TakesExtractions head
+MaySend head letter.Extract = head.kind ≡ operator
 
 -- what a field can be
 pub data FieldKind : Type 0 where

@@ -1,19 +1,19 @@
-ghost use Rattle.std.specs.Prelude.{◌≡◌, ◌∷◌, [], codes, IfOk, IfErr};
+ghost use Rattle.std.specs.Prelude.{◌≡◌, ◌≢◌, ℕ, ◌∷◌, [], codes, IfOk, IfErr};
 ghost use Rattle.std.specs.Option.{option_copied};
 ghost use Rattle.afd_records.specs.Record.{IsCollector};
 ghost use Rattle.rep_wire.specs.Fields.{fields_behind};
-ghost use Rattle.rep_wire.specs.LaneGrammar.{IsLaneHead, MaySend, HasCollector, collector_of};
-ghost use Rattle.rep_wire.specs.Asking.{Asks, IsFault, collector_in};
+ghost use Rattle.rep_wire.specs.LaneGrammar.{IsLaneHead, HasCollector, collector_of};
+ghost use Rattle.rep_wire.specs.Asking.{Asks, AsksPeriod, OrdersBehind, IsFault, collector_in};
 
 use crate::cut::{EmployerFields, WorkerFields, five, next, one, six, two};
 use crate::head::{LaneHead, OPERATOR};
 use crate::letter::Letter;
-use crate::request::Ask;
+use crate::request::{Ask, Order, Request};
 use crate::value::{
-    is_employer_kind, read_cno, read_employer_name, read_event_code, read_id, read_op,
-    read_worker_name,
+    is_employer_kind, read_cno, read_employer_name, read_event_code, read_id, read_last_day,
+    read_op, read_worker_name,
 };
-use rep_fields::{Cpf, Stamp, Text};
+use rep_fields::{Cpf, Day, Stamp, Text};
 
 /// The collector that is recorded with the clockings of an operator's lane: another device.
 const OTHER_COLLECTOR: u8 = 5;
@@ -27,10 +27,58 @@ pub enum Fault {
     Field(u8),
 }
 
-/// Reads the fields behind the second of a line with this letter.
-pub fn read_ask(head: &LaneHead, letter: Letter, fields: Option<&[u8]>) -> Result<Ask, Fault>
+/// Reads what is ordered by the fields behind the second of a line with this letter, where its number is `seq`.
+pub fn read_order(
+    head: &LaneHead,
+    letter: Letter,
+    seq: u64,
+    fields: Option<&[u8]>,
+) -> Result<Order, Fault>
+    requires { IsLaneHead head.now }
+    ensures ordered { IfOk result (OrdersBehind head.now letter seq (fields_behind (option_copied fields.entry))) }
+    ensures fault { IfErr result (IsFault letter (fields_behind (option_copied fields.entry))) }
+{
+    match letter {
+        Letter::Extract => read_period(seq, fields),
+        Letter::Mark | Letter::Employer | Letter::Worker | Letter::Adjust | Letter::Event => {
+            match read_ask(head, letter, fields) {
+                Ok(ask) => Ok(Order::Asked(Request {
+                    origin: head.origin,
+                    seq,
+                    ask,
+                })),
+                Err(fault) => Err(fault),
+            }
+        }
+    }
+}
+
+// `from|to`.
+fn read_period(seq: u64, fields: Option<&[u8]>) -> Result<Order, Fault>
+    ensures ordered { IfOk result (λ order. (from : ℕ) × (to : ℕ) × (order ≡ Order.Extract seq from to)
+        × AsksPeriod (fields_behind (option_copied fields.entry)) from to) }
+    ensures fault { IfErr result (IsFault Letter.Extract (fields_behind (option_copied fields.entry))) }
+{
+    let Some((from, to)) = two(fields) else {
+        return Err(Fault::Number);
+    };
+    let Some(first) = Day::read(from) else {
+        return Err(Fault::Field(3));
+    };
+    let Some(last) = read_last_day(&first, to) else {
+        return Err(Fault::Field(4));
+    };
+    Ok(Order::Extract {
+        seq,
+        from: first,
+        to: last,
+    })
+}
+
+// Reads what is asked by the fields behind the second of a line with this letter.
+fn read_ask(head: &LaneHead, letter: Letter, fields: Option<&[u8]>) -> Result<Ask, Fault>
     requires head { IsLaneHead head.now }
-    requires allowed { MaySend head.now letter }
+    requires asks { letter ≢ Letter.Extract }
     ensures asked { IfOk result (Asks letter (fields_behind (option_copied fields.entry))) }
     ensures collector { IfOk result (HasCollector head.now) }
     ensures fault { IfErr result (IsFault letter (fields_behind (option_copied fields.entry))) }

@@ -65,7 +65,8 @@ fn may_send(head: &LaneHead, letter: Letter) -> bool
 {
     match letter {
         Letter::Mark => true,
-        Letter::Employer | Letter::Worker | Letter::Adjust | Letter::Event => head.kind == OPERATOR,
-        Letter::Extract => false,
+        Letter::Employer | Letter::Worker | Letter::Adjust | Letter::Event | Letter::Extract => {
+            head.kind == OPERATOR
+        }
     }
 }

@@ -5,11 +5,11 @@ ghost use Rattle.rep_wire.specs.LaneGrammar.{IsLaneHead, Orders, IsMalformed, Is
 ghost use Rattle.rep_wire.specs.Asking.{CutsSeq};
 ghost use Rattle.rep_wire.specs.declared.request.Order.{Order};
 
-use crate::asking::{Fault, read_ask};
+use crate::asking::{Fault, read_order};
 use crate::cut::{cut, next};
 use crate::head::LaneHead;
 use crate::letter::letter_on;
-use crate::request::{Order, Request};
+use crate::request::Order;
 use crate::value::read_seq;
 use rep_io::LONGEST_LINE;
 
@@ -69,12 +69,8 @@ fn order_or_fault(line: &[u8], head: &LaneHead) -> Result<Order, Malformed>
             seq: told,
         });
     };
-    match (read_ask(head, letter, behind), seq) {
-        (Ok(ask), Some(seq)) => Ok(Order::Asked(Request {
-            origin: head.origin,
-            seq,
-            ask,
-        })),
+    match (read_order(head, letter, told, behind), seq) {
+        (Ok(order), Some(_)) => Ok(order),
         (Ok(_), None) | (Err(Fault::Field(_)), None) => Err(Malformed {
             field: SEQ,
             seq: told,

@@ -174,7 +174,7 @@ fn texts_have_their_greatest_lengths(rt: HostRuntime) {
 #[test]
 fn the_first_field_off_its_grammar_is_named(rt: HostRuntime) {
     let desk = head_of(&rt, b"L|9|00");
-    let good: [&[u8]; 12] = [
+    let good: [&[u8]; 14] = [
         b"M|1|52998224725|0",
         b"M|999999999999|52998224725|0",
         b"M|1|52998224725|1|1970-01-01T00:00:00+0000",
@@ -187,6 +187,8 @@ fn the_first_field_off_its_grammar_is_named(rt: HostRuntime) {
         b"T|1|2024-03-04T08:00:00-0300|52998224725",
         b"V|1|07",
         b"V|1|08",
+        b"X|9|2024-03-04|2024-03-04",
+        b"X|1|1970-01-01|9999-12-31",
     ];
     for line in good {
         assert!(rt;
@@ -195,7 +197,7 @@ fn the_first_field_off_its_grammar_is_named(rt: HostRuntime) {
             line.escape_ascii()
         );
     }
-    let bad: [(&[u8], u8, u64); 24] = [
+    let bad: [(&[u8], u8, u64); 31] = [
         (b"M|0|52998224725|0", 2, 0),
         (b"M|01|52998224725|0", 2, 0),
         (b"M||52998224725|0", 2, 0),
@@ -220,6 +222,13 @@ fn the_first_field_off_its_grammar_is_named(rt: HostRuntime) {
         (b"T|7|2024-03-04T08:00-0300|52998224725", 3, 7),
         (b"T|7|2024-03-04T08:00:00-0300|", 4, 7),
         (b"V|7|06", 3, 7),
+        (b"X|x|2024-03-04|2024-03-04", 2, 0),
+        (b"X|7|2024-02-30|2024-03-04", 3, 7),
+        (b"X|7||2024-03-04", 3, 7),
+        (b"X|7|2024-03-05|2024-03-04", 4, 7),
+        (b"X|7|2024-03-04|2024-3-4", 4, 7),
+        (b"X|7|2024-03-04", 0, 7),
+        (b"X|7|2024-03-04|2024-03-04|", 0, 7),
     ];
     for (line, field, seq) in bad {
         assert!(rt;
@@ -268,7 +277,24 @@ fn only_an_operator_sends_what_is_no_clocking(rt: HostRuntime) {
     }
     let desk = head_of(&rt, b"L|9|00");
     assert!(rt; refusal(b"V|3", &desk) == Some((0, 3)));
-    assert!(rt; refusal(b"X|3|2024-03-01|2024-03-31", &desk) == Some((1, 3)));
+    assert!(rt; refusal(b"X|3|2024-03-01", &desk) == Some((0, 3)));
+}
+
+#[test]
+fn an_extraction_names_its_first_and_its_last_day(rt: HostRuntime) {
+    let desk = head_of(&rt, b"L|9|00");
+    let order = match read_line(b"X|9|2024-03-04|2024-03-31", &desk) {
+        Ok(order) => order,
+        Err(_) => panic!(rt; "malformed"),
+    };
+    match &order {
+        Order::Extract { seq, from, to } => {
+            assert_eq!(rt; *seq, 9);
+            assert_eq!(rt; from.write(), *b"2024-03-04");
+            assert_eq!(rt; to.write(), *b"2024-03-31");
+        }
+        Order::Asked(_) => panic!(rt; "a request"),
+    }
 }
 
 // The request that a line of the lane asks.

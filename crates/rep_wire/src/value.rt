@@ -1,4 +1,5 @@
 ghost use Rattle.std.specs.Prelude.{◌≡◌, ◌≤◌, ◌↔◌, ◌⊎◌, decimal, codes, IsTrue};
+ghost use Rattle.rep_fields.specs.Calendar.{IsDay, day_text};
 ghost use Rattle.rep_fields.specs.Decoding.{Decodes, DecodesBy};
 ghost use Rattle.rep_fields.specs.Digits.{numeral};
 ghost use Rattle.rep_fields.specs.Latin.{IsFilled};
@@ -8,7 +9,7 @@ ghost use Rattle.rep_wire.specs.Request.{IsOrigin, IsSeq};
 ghost use Rattle.rep_wire.specs.LaneGrammar.{last_kind, IsCnoText, IsIdText, IsNameOfEmployer, IsNameOfWorker};
 
 use afd_records::Op;
-use rep_fields::{Cpf, EmployerId, Text, get_n, read_decimal};
+use rep_fields::{Cpf, Day, EmployerId, Text, get_n, read_decimal};
 
 /// The greatest number of an origin.
 const LAST_ORIGIN: u64 = 65_535;
@@ -147,4 +148,15 @@ pub fn read_event_code(text: &[u8]) -> Option<u8>
         return Some(8);
     }
     None
+}
+
+/// Reads the last day of a period that begins on this day, and is none before it.
+pub fn read_last_day(first: &Day, text: &[u8]) -> Option<Day>
+    ensures { Decodes (λ day. IsDay day × (first.now ≤ day)) day_text text.now result }
+{
+    let last = Day::read(text)?;
+    if last.number < first.number {
+        return None;
+    }
+    Some(last)
 }

@@ -1,2 +1,3 @@
 mod PrintWords
 mod Lists
+mod PeriodWords

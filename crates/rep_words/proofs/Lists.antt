@@ -18,3 +18,15 @@ four_from_reads (x ∷ y ∷ []) a b c d n p q r s = absurd (omega arith)
 four_from_reads (x ∷ y ∷ z ∷ []) a b c d n p q r s = absurd (omega arith)
 four_from_reads (x ∷ y ∷ z ∷ w ∷ []) a b c d n p q r s = cc
 four_from_reads (x ∷ y ∷ z ∷ w ∷ v ∷ xs) a b c d n p q r s = absurd (omega arith)
+
+-- a list of six
+pub six_from_reads : {X : Type 0} (xs : List X) (a b c d e f : X) → length xs ≡ 6 → a ≡ get_or xs 0 a → b ≡ get_or xs 1 b → c ≡ get_or xs 2 c → d ≡ get_or xs 3 d → e ≡ get_or xs 4 e → f ≡ get_or xs 5 f
+    → xs ≡ a ∷ b ∷ c ∷ d ∷ e ∷ f ∷ []
+six_from_reads [] a b c d e f n p q r s t u = absurd (omega arith)
+six_from_reads (x ∷ []) a b c d e f n p q r s t u = absurd (omega arith)
+six_from_reads (x ∷ y ∷ []) a b c d e f n p q r s t u = absurd (omega arith)
+six_from_reads (x ∷ y ∷ z ∷ []) a b c d e f n p q r s t u = absurd (omega arith)
+six_from_reads (x ∷ y ∷ z ∷ w ∷ []) a b c d e f n p q r s t u = absurd (omega arith)
+six_from_reads (x ∷ y ∷ z ∷ w ∷ v ∷ []) a b c d e f n p q r s t u = absurd (omega arith)
+six_from_reads (x ∷ y ∷ z ∷ w ∷ v ∷ o ∷ []) a b c d e f n p q r s t u = cc
+six_from_reads (x ∷ y ∷ z ∷ w ∷ v ∷ o ∷ m ∷ xs) a b c d e f n p q r s t u = absurd (omega arith)

@@ -1,6 +1,6 @@
-ghost use Rattle.std.specs.Prelude.{◌≡◌, true, map, string_bytes, Err, IfOk, IsErrOf, OnOk};
+ghost use Rattle.std.specs.Prelude.{◌≡◌, map, string_bytes, Err, IfOk, IsErrOf, OnOk};
 ghost use Rattle.rep_words.specs.Words.{Asks, IsOnGrammar};
-ghost use Rattle.rep_words.specs.Places.{command_of, disk_of, ending_of, outs_of, texts_of};
+ghost use Rattle.rep_words.specs.Places.{clock_of, command_of, disk_of, ending_of, outs_of, texts_of};
 
 use crate::words::{Asked, asked_of};
 use std::alloc::{AllocFailed, Global};
@@ -11,6 +11,8 @@ pub enum Command {
     Print,
     Create,
     Run,
+    Extract,
+    Receipt,
 }
 
 impl Command {
@@ -20,7 +22,7 @@ impl Command {
         ensures { result.now ≡ ending_of self }
     {
         match self {
-            Command::Print | Command::Create => "",
+            Command::Print | Command::Create | Command::Extract | Command::Receipt => "",
             Command::Run => ".out",
         }
     }
@@ -69,7 +71,7 @@ pub fn plan_words(alloc: Global, words: &[String]) -> Result<Errand, WordsFault>
     ensures texts { IfOk result (λ errand. (asked : Asked) → Asks (map string_bytes words.now) asked → errand.texts.items ≡ texts_of asked) }
     ensures outs { IfOk result (λ errand. (asked : Asked) → Asks (map string_bytes words.now) asked → errand.outs.items ≡ outs_of asked) }
     ensures disk { IfOk result (λ errand. (asked : Asked) → Asks (map string_bytes words.now) asked → errand.disk ≡ disk_of asked) }
-    ensures clock { IfOk result (λ errand. errand.clock ≡ true) }
+    ensures clock { IfOk result (λ errand. (asked : Asked) → Asks (map string_bytes words.now) asked → errand.clock ≡ clock_of asked) }
     ensures off_grammar { IsErrOf result WordsFault.OffGrammar → ¬ IsOnGrammar (map string_bytes words.now) }
     ensures only_off_grammar { ¬ IsOnGrammar (map string_bytes words.now) → result ≡ Err WordsFault.OffGrammar }
 {
@@ -85,20 +87,23 @@ fn errand_of(alloc: Global, asked: Asked) -> Result<Errand, WordsFault>
     ensures texts { IfOk result (λ errand. errand.texts.items ≡ texts_of asked) }
     ensures outs { IfOk result (λ errand. errand.outs.items ≡ outs_of asked) }
     ensures disk { IfOk result (λ errand. errand.disk ≡ disk_of asked) }
-    ensures clock { IfOk result (λ errand. errand.clock ≡ true) }
+    ensures clock { IfOk result (λ errand. errand.clock ≡ clock_of asked) }
     ensures memory { ¬ IsErrOf result WordsFault.OffGrammar }
 {
-    let (command, texts, outs, disk): (Command, &[u32], &[u32], Option<u32>) = match asked {
-        Asked::Print { .. } => (Command::Print, &[1], &[2], None),
-        Asked::Create => (Command::Create, &[1], &[], Some(2)),
-        Asked::Run => (Command::Run, &[1, 3], &[3], Some(2)),
-    };
+    let (command, texts, outs, disk, clock): (Command, &[u32], &[u32], Option<u32>, bool) =
+        match asked {
+            Asked::Print { .. } => (Command::Print, &[1], &[2], None, true),
+            Asked::Create => (Command::Create, &[1], &[], Some(2), true),
+            Asked::Run => (Command::Run, &[1, 3], &[3], Some(2), true),
+            Asked::Extract { .. } => (Command::Extract, &[1], &[5], Some(2), true),
+            Asked::Receipt { .. } => (Command::Receipt, &[1], &[], Some(2), false),
+        };
     Ok(Errand {
         command,
         texts: list_of(alloc, texts)?,
         outs: list_of(alloc, outs)?,
         disk,
-        clock: true,
+        clock,
     })
 }
 

@@ -3,11 +3,13 @@
 #![tactic(auto)]
 
 mod errand;
+mod period;
 mod rig;
 #[cfg(test)]
 mod tests;
 mod words;
 
 pub use errand::{Command, Errand, WordsFault, plan_words};
+pub use period::Period;
 pub use rig::{Outcome, Rig};
 pub use words::{Asked, asked_of};

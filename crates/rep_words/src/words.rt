@@ -1,6 +1,8 @@
-ghost use Rattle.std.specs.Prelude.{◌≡◌, ◌∷◌, [], ℤ, Some, map, string_bytes, IfSome, IsTrue};
-ghost use Rattle.rep_words.specs.Words.{Asks, IsCreate, IsPrint, IsRun};
+ghost use Rattle.std.specs.Prelude.{◌≡◌, ◌∷◌, [], ℕ, ℤ, Option, Some, map, string_bytes, IfSome, IsTrue};
+ghost use Rattle.rep_words.specs.Words.{Asks, IsCreate, IsExtract, IsPrint, IsReceipt, IsRun};
+ghost use Rattle.rep_words.specs.declared.period.Period.{Period as ThePeriod};
 
+use crate::period::{Period, read_nsr, read_period};
 use rep_fields::read_offset;
 
 /// What the words ask for.
@@ -12,6 +14,10 @@ pub enum Asked {
     Create,
     /// `run SITE JOURNAL LANE`.
     Run,
+    /// `extract SITE JOURNAL FROM TO OUT`, and the period that FROM and TO are, if they are one.
+    Extract { period: Option<Period> },
+    /// `receipt SITE JOURNAL NSR`, and the number of the record that NSR is.
+    Receipt { nsr: u32 },
 }
 
 /// What the words ask for. `None` exactly where they are those of no command.
@@ -27,6 +33,12 @@ pub fn asked_of(words: &[String]) -> Option<Asked>
     }
     if is_run(words) {
         return Some(Asked::Run);
+    }
+    if let Some(period) = extract_period(words) {
+        return Some(Asked::Extract { period });
+    }
+    if let Some(nsr) = receipt_nsr(words) {
+        return Some(Asked::Receipt { nsr });
     }
     None
 }
@@ -71,5 +83,44 @@ fn is_run(words: &[String]) -> bool
             command.as_str() == "run" && !site.is_empty() && !journal.is_empty() && !lane.is_empty()
         }
         _ => false,
+    }
+}
+
+/// The period that the words of `extract SITE JOURNAL FROM TO OUT` name, if they name one. `None` exactly where they are
+/// others.
+fn extract_period(words: &[String]) -> Option<Option<Period>>
+    ensures found { IfSome result (λ period. IsExtract (map string_bytes words.now) period) }
+    ensures only { (period : Option ThePeriod) → IsExtract (map string_bytes words.now) period → result ≡ Some period }
+{
+    match words {
+        [command, site, journal, first, last, out] => {
+            if command.as_str() == "extract"
+                && !site.is_empty()
+                && !journal.is_empty()
+                && !out.is_empty()
+            {
+                Some(read_period(first.as_bytes(), last.as_bytes()))
+            } else {
+                None
+            }
+        }
+        _ => None,
+    }
+}
+
+/// The number that the words of `receipt SITE JOURNAL NSR` name. `None` exactly where they are others.
+fn receipt_nsr(words: &[String]) -> Option<u32>
+    ensures found { IfSome result (λ nsr. IsReceipt (map string_bytes words.now) nsr) }
+    ensures only { (nsr : ℕ) → IsReceipt (map string_bytes words.now) nsr → result ≡ Some nsr }
+{
+    match words {
+        [command, site, journal, number] => {
+            if command.as_str() == "receipt" && !site.is_empty() && !journal.is_empty() {
+                read_nsr(number.as_bytes())
+            } else {
+                None
+            }
+        }
+        _ => None,
     }
 }

@@ -1,7 +1,7 @@
-use Rattle.rep_lane.proofs.LineLemmas.{answers_one}
 use Rattle.rep_lane.proofs.answering.answer_line.Goals as goal
 
-pub returns-clause-answers : goal.returns-clause-answers
-returns-clause-answers g c =
-    answers_one g.Q.Desk.asks g.Q.Desk.shows c.args.head.now c.args.number c.args.line.now c.args.desk.now c.reply_to.new.desk _ _
-    (record { seq = c.in_ok-seq.seq; reply = c.in_ok-seq.reply }) c.write_reply.result c.in_ok-seq.ensures c.write_reply.ensures.writes
+pub returns-in-Ok-clause-answers : goal.returns-in-Ok-clause-answers
+returns-in-Ok-clause-answers g c = c.answer_order.ensures.answers c.args.head.now c.args.line.now c.in-Ok.ensures.found
+
+pub returns-in-Ok-clause-untouched : goal.returns-in-Ok-clause-untouched
+returns-in-Ok-clause-untouched g c = c.answer_order.ensures.untouched c.args.head.now c.args.line.now c.in-Ok.ensures.found

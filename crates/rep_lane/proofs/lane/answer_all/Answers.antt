@@ -2,13 +2,14 @@ use Rattle.std.proofs.Common.{◌≡◌, ◌+◌, ◌≤◌, length, refl, ◌�
 use Rattle.rep_io.specs.Lines.{longest_text}
 use Rattle.rep_io.specs.Cutter.{line_start}
 use Rattle.rep_lane.specs.Answers.{receipts_in, refusals_in}
+use Rattle.rep_lane.specs.Desk.{steps_of}
 use Rattle.rep_lane.proofs.AnswerLemmas.{receipts-and-refusals}
 use Rattle.rep_lane.proofs.RunLemmas.{goes_on, ends, start}
 use Rattle.rep_lane.proofs.lane.answer_all.Goals as goal
 
 pub answers-init : goal.answers-init
 answers-init g c = (
-  start g.S.Source.left g.Q.Desk.asks g.Q.Desk.shows c.args.head.now c.args.first c.args.lines.now c.args.desk.now _,
+  start g.S.Source.left (steps_of g.Q.Desk.asks g.Q.Desk.extracts g.Q.Desk.shows) c.args.head.now c.args.first c.args.lines.now c.args.desk.now _,
   omega arith,
   omega arith,
   omega arith,
@@ -41,8 +42,8 @@ answers-preserved g c =
     let sink : g.K.Sink.faults c.args.sink.now ≤ g.K.Sink.faults c.answers.sink = c.answers.invariant.2 in
     let source_next : g.S.Source.faults c.answers.lines.source ≤ g.S.Source.faults c.answer_next.new.lines.source = c.answer_next.ensures.source_later in
     let sink_next : g.K.Sink.faults c.answers.sink ≤ g.K.Sink.faults c.answer_next.new.sink = c.answer_next.ensures.sink_later in (
-      goes_on g.S.Source.left g.Q.Desk.asks g.Q.Desk.shows c.args.head.now c.args.first c.answers.number c.args.lines.now c.answers.lines c.args.desk.now c.answers.desk _ _
-          c.answers.tally c.answers.invariant.0 c.answer_next.new.lines c.answer_next.new.desk _ c.in-Ok.is_receipt c.count.new.self c.in-Ok.ensures.takes
+      goes_on g.S.Source.left (steps_of g.Q.Desk.asks g.Q.Desk.extracts g.Q.Desk.shows) c.args.head.now c.args.first c.answers.number c.args.lines.now c.answers.lines c.args.desk.now c.answers.desk _ _
+          c.answers.tally c.answers.invariant.0 c.answer_next.new.lines c.answer_next.new.desk _ c.in-Ok.kind c.count.new.self c.in-Ok.ensures.takes
           (record { lines = c.count.ensures.lines; receipts = c.count.ensures.receipts; refused = c.count.ensures.refused }),
       omega arith,
       omega arith,
@@ -58,11 +59,11 @@ answers-preserved g c =
 
 pub returns-in-Err-clause-runs : goal.returns-in-Err-clause-runs
 returns-in-Err-clause-runs g c =
-    ends g.S.Source.left g.Q.Desk.asks g.Q.Desk.shows c.args.head.now c.args.first c.answers.number c.args.lines.now c.answers.lines c.args.desk.now c.answers.desk
+    ends g.S.Source.left (steps_of g.Q.Desk.asks g.Q.Desk.extracts g.Q.Desk.shows) c.args.head.now c.args.first c.answers.number c.args.lines.now c.answers.lines c.args.desk.now c.answers.desk
     c.answer_next.new.desk _ _ _ c.answers.tally c.in-Err.end c.answers.invariant.0 c.in-Err.ensures.takes
 
 pub returns-in-Err-clause-few : goal.returns-in-Err-clause-few
 returns-in-Err-clause-few g c = let few : c.answers.tally.lines ≤ longest_text + 1 = c.answers.invariant.3 in omega arith
 
 pub returns-in-Err-clause-untouched : goal.returns-in-Err-clause-untouched
-returns-in-Err-clause-untouched g c none other = c.in-Err.ensures.untouched other ∙ c.answers.invariant.4 none
+returns-in-Err-clause-untouched g c none other device = c.in-Err.ensures.untouched other device ∙ c.answers.invariant.4 none

@@ -2,7 +2,7 @@ use Rattle.std.proofs.Common.{◌≡◌, length, Err, ap, ◌∙◌, arith}
 use Rattle.rep_journal.specs.Format.{gate_at}
 use Rattle.rep_ledger.proofs.LedgerLemmas.{IsNextLine-read, IsNextLine-unread}
 use Rattle.rep_core.proofs.Standing.{Stands-own}
-use Rattle.rep_ledger.proofs.ReplaySteps.{IsReplayed-start, IsReplayed-step, MisfitAmong-step, founded_at_end, replayed_at_end}
+use Rattle.rep_ledger.proofs.ReplaySteps.{IsReplayed-start, IsReplayed-step, MisfitAmong-step, counted_at_end, founded_at_end, replayed_at_end}
 use Rattle.rep_ledger.proofs.replaying.replay.Goals as goal
 
 pub loop-i-init : goal.loop-i-init
@@ -38,3 +38,7 @@ returns-clause-founded g c = λ h stands.
 pub returns-clause-replayed : goal.returns-clause-replayed
 returns-clause-replayed g c = λ h stands told.
     replayed_at_end g.D.Disk.shown c.loop-i.i c.loop-i.core c.args.journal.now c.loop-i.journal h c.loop-i.invariant (omega (arith, c.count-count.ensures.count)) stands told
+
+pub returns-clause-count : goal.returns-clause-count
+returns-clause-count g c = λ h stands.
+    counted_at_end g.D.Disk.shown c.loop-i.i c.loop-i.core c.args.journal.now c.loop-i.journal h c.loop-i.invariant (omega (arith, c.count-count.ensures.count)) stands

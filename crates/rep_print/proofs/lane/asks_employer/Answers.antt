@@ -29,3 +29,12 @@ returns-in-Err c = (
       let is = c.in-Err.is in
       absurd cc,
 )
+
+pub returns-in-Ok-Extract : goal.returns-in-Ok-Extract
+returns-in-Ok-Extract c = (
+  λ is. absurd cc,
+  λ line.
+      let read = c.read_line.ensures.only (Asked line.request) line.ordered in
+      let is = c.in-Ok-Extract.is in
+      absurd cc,
+)

@@ -21,17 +21,17 @@ returns-in-Err-clause-clock_fault g c =
 
 pub returns-in-Ok-clause-laned : goal.returns-in-Ok-clause-laned
 returns-in-Ok-clause-laned g c =
-    gone_on g.S.Source.left g.C.Clock.readings g.C.Clock.faults c.args.head.now c.in-Ok.is_receipt c.args.lines c.begin.new.lines c.args.desk.now c.begin.new.desk c.go_on.new.desk
+    gone_on g.S.Source.left g.C.Clock.readings g.C.Clock.faults c.args.head.now c.in-Ok.kind c.args.lines c.begin.new.lines c.args.desk.now c.begin.new.desk c.go_on.new.desk
     _ _ _ c.go_on.result.tally c.go_on.result.ending c.requires.empty c.in-Ok.ensures.begins c.go_on.ensures.goes_on
 
 pub returns-in-Ok-clause-clock_later : goal.returns-in-Ok-clause-clock_later
 returns-in-Ok-clause-clock_later g c =
-    (clock_goes g.S.Source.left g.C.Clock.readings g.C.Clock.faults c.args.head.now c.in-Ok.is_receipt c.args.lines c.begin.new.lines c.args.desk.now c.begin.new.desk c.go_on.new.desk
+    (clock_goes g.S.Source.left g.C.Clock.readings g.C.Clock.faults c.args.head.now c.in-Ok.kind c.args.lines c.begin.new.lines c.args.desk.now c.begin.new.desk c.go_on.new.desk
     _ _ _ c.go_on.result.tally c.go_on.result.ending c.requires.empty c.in-Ok.ensures.begins c.go_on.ensures.goes_on).0
 
 pub returns-in-Ok-clause-clock_fault : goal.returns-in-Ok-clause-clock_fault
 returns-in-Ok-clause-clock_fault g c =
-    (clock_goes g.S.Source.left g.C.Clock.readings g.C.Clock.faults c.args.head.now c.in-Ok.is_receipt c.args.lines c.begin.new.lines c.args.desk.now c.begin.new.desk c.go_on.new.desk
+    (clock_goes g.S.Source.left g.C.Clock.readings g.C.Clock.faults c.args.head.now c.in-Ok.kind c.args.lines c.begin.new.lines c.args.desk.now c.begin.new.desk c.go_on.new.desk
     _ _ _ c.go_on.result.tally c.go_on.result.ending c.requires.empty c.in-Ok.ensures.begins c.go_on.ensures.goes_on).1
 
 pub returns-in-Err-clause-unread : goal.returns-in-Err-clause-unread

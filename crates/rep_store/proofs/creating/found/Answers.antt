@@ -1,4 +1,4 @@
-use Rattle.std.proofs.Common.{◌≡◌, ◌∙◌, ℤ, w16, to_z, of_z, List, [], length, Some, inr, rules, refl, ap, sym, subst, arith}
+use Rattle.std.proofs.Common.{◌≡◌, ◌∙◌, ℕ, ◌++◌, ◌∷◌, ℤ, w16, to_z, of_z, List, [], length, Some, inr, rules, refl, ap, sym, subst, arith}
 use Rattle.rep_fields.specs.Moment.{IsMoment, IsOffset, moment_at}
 use Rattle.rep_wire.specs.declared.request.Entry.{Entry}
 use Rattle.rep_core.specs.Answered.{recorded_after}
@@ -12,6 +12,8 @@ use Rattle.rep_store.specs.Making.{CrashesSafely, FoundsNone}
 use Rattle.rep_store.specs.Steps.{Ticks}
 use Rattle.rep_store.specs.declared.error.NoStore.{NoStore}
 use Rattle.rep_store.specs.declared.error.StoreWhy.TheVariants.{Journal}
+use Rattle.rep_core.specs.History.{days_of}
+use Rattle.rep_store.proofs.Dates.{days_of-recorded}
 use Rattle.rep_store.proofs.Foundings.{CrashesSafely-begin, CrashesSafely-blank, FailsToFound-begin, FoundsStore-founded, IsSafe-founded, IsWhole-founded}
 use Rattle.rep_store.proofs.creating.found.Goals as goal
 
@@ -38,9 +40,14 @@ invariant_of-result g c =
     (c.in-Some.ensures.reading ticks.in_range.0 ticks.in_range.1 (subst IsOffset (sym offset) c.requires.site.offset)) in
     let at : c.in-Some.now ≡ moment_at c.in-Ok.minute c.args.site.now.offset = cc in
     let stamp : IsMoment c.in-Some.now = search rules in
-    let entries = entries_of c.accept.new.self (recorded_after [] c.args.request.now c.in-Some.now) (c.accept.ensures.recorded [] c.requires.stands) in
-    IsWhole-founded g.D.Disk.shown g.C.Clock.readings g.C.Clock.faults c.args.site.now c.requires.site c.args.request.now c.requires.founding c.args.vacant c.args.clock c.now.new.self c.in-Ok.minute c.in-Some.now stamp ticks at
-    c.frame_of-frame.result (c.frame_of-frame.ensures [] c.requires.stands) c.accept.new.self entries (c.accept.ensures.limit ∙ c.requires.limit) c.in-Ok-create.journal c.new.result c.new.ensures c.args.site.now refl c.in-Ok-create.ensures.created
+    let entries = entries_of c.accept.new.self (recorded_after [] c.args.request.now c.in-Some.now) (c.accept.ensures.recorded [] c.requires.stands) in (
+      IsWhole-founded g.D.Disk.shown g.C.Clock.readings g.C.Clock.faults c.args.site.now c.requires.site c.args.request.now c.requires.founding c.args.vacant c.args.clock c.now.new.self c.in-Ok.minute c.in-Some.now stamp ticks at
+          c.frame_of-frame.result (c.frame_of-frame.ensures [] c.requires.stands) c.accept.new.self entries (c.accept.ensures.limit ∙ c.requires.limit) c.in-Ok-create.journal c.new.result c.new.ensures c.args.site.now refl c.in-Ok-create.ensures.created,
+      record {
+        same = c.push.ensures ∙ ap (λ (xs : List ℕ). xs ++ c.day.result ∷ []) c.requires.days ∙ ap (λ (d : ℕ). d ∷ []) c.day.ensures.day
+            ∙ sym (days_of-recorded [] c.args.request.now c.in-Some.now) ∙ ap (λ (xs : List Entry). days_of xs) (sym entries);
+      },
+    )
 
 pub returns-in-Ok-create-clause-founded : goal.returns-in-Ok-create-clause-founded
 returns-in-Ok-create-clause-founded g c =

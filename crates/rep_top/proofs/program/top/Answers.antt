@@ -1,7 +1,9 @@
-use Rattle.std.proofs.Common.{rules, ◌≡◌, ◌∙◌, ℤ, w16, to_z, of_z, sym, subst, inl}
-use Rattle.rep_words.specs.declared.words.Asked.TheVariants.{Print, Create, Run}
+use Rattle.std.proofs.Common.{rules, ◌≡◌, ◌∙◌, ℕ, None, Some, ℤ, w16, to_z, of_z, sym, subst, inl}
+use Rattle.rep_core.specs.History.{IsNumbered}
+use Rattle.rep_words.specs.declared.period.Period.{Period}
+use Rattle.rep_words.specs.declared.words.Asked.TheVariants.{Print, Create, Run, Extract, Receipt}
 use Rattle.rep_top.specs.Program.{sense_of}
-use Rattle.rep_top.specs.Commands.{PrintsOver}
+use Rattle.rep_top.specs.Commands.{AnswersOver, ExtractsOver, PrintsOver}
 use Rattle.rep_top.proofs.Rising.{one_rose, first_rose, second_rose, file_rose, that_rose, none_isnt_some}
 use Rattle.rep_top.proofs.program.top.Goals as goal
 
@@ -65,3 +67,58 @@ returns-in-None-clause-creates_all g c is = absurd (none_isnt_some c.asked_of.re
 
 pub returns-in-None-clause-runs_all : goal.returns-in-None-clause-runs_all
 returns-in-None-clause-runs_all g c is = absurd (none_isnt_some c.asked_of.result Run c.in-None.is (c.asked_of.ensures.only Run is))
+
+pub returns-in-None-clause-extracted : goal.returns-in-None-clause-extracted
+returns-in-None-clause-extracted g c period is = absurd (none_isnt_some c.asked_of.result (Extract (Some period)) c.in-None.is (c.asked_of.ensures.only (Extract (Some period)) is))
+
+pub returns-in-None-clause-misdated : goal.returns-in-None-clause-misdated
+returns-in-None-clause-misdated g c is = absurd (none_isnt_some c.asked_of.result (Extract None) c.in-None.is (c.asked_of.ensures.only (Extract None) is))
+
+pub returns-in-None-clause-undated : goal.returns-in-None-clause-undated
+returns-in-None-clause-undated g c is = absurd (none_isnt_some c.asked_of.result (Extract None) c.in-None.is (c.asked_of.ensures.only (Extract None) is))
+
+pub returns-in-None-clause-answered : goal.returns-in-None-clause-answered
+returns-in-None-clause-answered g c nsr is = absurd (none_isnt_some c.asked_of.result (Receipt nsr) c.in-None.is (c.asked_of.ensures.only (Receipt nsr) is))
+
+pub returns-in-None-clause-extracts_all : goal.returns-in-None-clause-extracts_all
+returns-in-None-clause-extracts_all g c period is = absurd (none_isnt_some c.asked_of.result (Extract (Some period)) c.in-None.is (c.asked_of.ensures.only (Extract (Some period)) is))
+
+pub returns-in-None-clause-answers_all : goal.returns-in-None-clause-answers_all
+returns-in-None-clause-answers_all g c nsr is = absurd (none_isnt_some c.asked_of.result (Receipt nsr) c.in-None.is (c.asked_of.ensures.only (Receipt nsr) is))
+
+pub returns-in-Some-Extract-Some-clause-extracts_all : goal.returns-in-Some-Extract-Some-clause-extracts_all
+returns-in-Some-Extract-Some-clause-extracts_all g c period is can none =
+    let before = can.parts in
+    let after = c.extract_over.ensures.rigged in
+    c.extract_over.ensures.complete can.text can.contents can.site can.history before after can.told can.said can.there can.keeps
+    (λ rose. none.sources (one_rose g.S.Source.faults _ _ before.site after.site before.text_is after.text_is rose))
+    (λ rose. none.clock (that_rose g.C.Clock.faults _ _ before.watch after.watch before.clock_is after.clock_is rose))
+    (λ rose. none.sinks (file_rose g.K.Sink.faults _ _ before.file after.file _ _ before.out_is after.out_is rose))
+    (λ rose. none.sinks (inl rose))
+    (λ rose. none.disk (that_rose (λ d. (g.D.Disk.shown d).faults) _ _ before.drive after.drive before.disk_is after.disk_is rose))
+
+pub returns-in-Some-Extract-Some-clause-extracted : goal.returns-in-Some-Extract-Some-clause-extracted
+returns-in-Some-Extract-Some-clause-extracted g c period is =
+    let both = sym c.in-Some-Extract-Some.is ∙ c.asked_of.ensures.only (Extract (Some period)) is in
+    let same : c.in-Some-Extract-Some.period ≡ period = search rules in
+    subst (λ (p : Period). ExtractsOver p (sense_of g.S.Source.left g.S.Source.faults g.K.Sink.written g.K.Sink.faults g.D.Disk.shown g.C.Clock.readings g.C.Clock.faults)
+    c.args.rig c.extract_over.result.rig c.extract_over.result.status) same c.extract_over.ensures.extracted
+
+pub returns-in-Some-Receipt-clause-answered : goal.returns-in-Some-Receipt-clause-answered
+returns-in-Some-Receipt-clause-answered g c nsr is =
+    let both = sym c.in-Some-Receipt.is ∙ c.asked_of.ensures.only (Receipt nsr) is in
+    let same : c.in-Some-Receipt.nsr ≡ nsr = search rules in
+    subst (λ (n : ℕ). AnswersOver n (sense_of g.S.Source.left g.S.Source.faults g.K.Sink.written g.K.Sink.faults g.D.Disk.shown g.C.Clock.readings g.C.Clock.faults)
+    c.args.rig c.receipt_over.result.rig c.receipt_over.result.status) same c.receipt_over.ensures.answered
+
+pub returns-in-Some-Receipt-clause-answers_all : goal.returns-in-Some-Receipt-clause-answers_all
+returns-in-Some-Receipt-clause-answers_all g c nsr is can none =
+    let both = sym c.in-Some-Receipt.is ∙ c.asked_of.ensures.only (Receipt nsr) is in
+    let same : c.in-Some-Receipt.nsr ≡ nsr = search rules in
+    let before = can.parts in
+    let after = c.receipt_over.ensures.rigged in
+    c.receipt_over.ensures.complete can.text can.contents can.site can.history can.entry before after can.told can.said can.there can.keeps
+    (subst (λ (n : ℕ). IsNumbered can.history n can.entry) (sym same) can.numbered) can.clocking
+    (λ rose. none.sources (one_rose g.S.Source.faults _ _ before.site after.site before.text_is after.text_is rose))
+    (λ rose. none.sinks (inl rose))
+    (λ rose. none.disk (that_rose (λ d. (g.D.Disk.shown d).faults) _ _ before.drive after.drive before.disk_is after.disk_is rose))

@@ -16,4 +16,5 @@ invariant_of-self c =
           c.args.entry c.index.result.now c.hash_of-hash.result c.self.inside.tip _ c.or-self-inside.result c.len-count.result
           c.self.invariant.1 room c.requires.text c.push_reserved.ensures.items count c.index.ensures c.as_ref.ensures.value
           c.hash_of-hash.ensures.value c.hash_of-hash.ensures.given c.push_reserved-2.ensures.items c.or-self-inside.ensures,
+      rw c.push_reserved.ensures.items (c.note.ensures.noted c.self.inside.entries.items c.self.invariant.2 (rw own c.requires.new) (omega (arith, c.len.ensures, c.self.inside.entries.ok.0))),
     )

@@ -8,4 +8,4 @@ pub returns-clause-value : goal.returns-clause-value
 returns-clause-value g c = c.count.ensures.value _ (Stands-own c.self.inside.core) ∙ ap (λ s. length s.history) c.self.view_is
 
 pub returns-clause-sound : goal.returns-clause-sound
-returns-clause-sound g c = subst (IsSound g.D.Disk.shown) c.self.view_is (IsSound-whole g.D.Disk.shown _ _ _ _ _ c.self.invariant)
+returns-clause-sound g c = subst (IsSound g.D.Disk.shown) c.self.view_is (IsSound-whole g.D.Disk.shown _ _ _ _ _ c.self.invariant.0)

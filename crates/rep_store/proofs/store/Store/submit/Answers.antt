@@ -74,6 +74,6 @@ returns-in_default-decide g c =
       safe = λ still.
           subst (λ (s : State g.row.D.Denot g.row.C.Denot). IsSafe (g.D.Disk.shown s.disk).moment s.history s.history (receipted_at (g.D.Disk.shown c.self.inside.device.disk).moment c.reply.result.answer) (g.D.Disk.shown s.disk) (g.D.Disk.shown c.self.inside.device.disk)) c.self.view_is
           (IsSafe-read c.self.inside.core.entries (receipted_at (g.D.Disk.shown c.self.inside.device.disk).moment c.reply.result.answer) (g.D.Disk.shown c.self.inside.device.disk) (g.D.Disk.shown c.self.inside.device.disk)
-          (settled_of g.D.Disk.shown c.self.inside.core c.self.inside.device c.self.inside.site c.self.invariant runs) (IsRead-refl (g.D.Disk.shown c.self.inside.device.disk))
+          (settled_of g.D.Disk.shown c.self.inside.core c.self.inside.device c.self.inside.site c.self.invariant.0 runs) (IsRead-refl (g.D.Disk.shown c.self.inside.device.disk))
           (receipts_within c.self.inside.core.limit c.self.inside.core.entries c.args.q.now c.reply.result (g.D.Disk.shown c.self.inside.device.disk).moment answered));
     }

@@ -1,0 +1,6 @@
+pub mod Lines
+pub mod Opening
+pub mod Writing
+pub mod Extract
+pub mod Receipt
+pub mod Giving

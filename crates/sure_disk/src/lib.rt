@@ -1,0 +1,8 @@
+//! A disk in memory that never fails: what is said of it holds without a word on faults.
+#![tactic(auto)]
+
+mod disk;
+#[cfg(test)]
+mod tests;
+
+pub use disk::{SureDisk, no_fails};
