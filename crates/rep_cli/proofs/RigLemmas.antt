@@ -9,7 +9,7 @@ use Rattle.rep_words.specs.Rigged.{IsRigged}
 use Rattle.rep_words.specs.declared.rig.Rig.{Rig}
 use Rattle.rep_words.specs.declared.errand.Command.{Command}
 use Rattle.rep_words.specs.declared.words.Asked.{Asked}
-use Rattle.rep_words.specs.declared.words.Asked.TheVariants.{Print, Create, Run, Extract, Receipt}
+use Rattle.rep_words.specs.declared.words.Asked.TheVariants.{Print, Create, Run, Extract, Receipt, Drill}
 use Rattle.rep_cli.specs.Paths.{disk_path, out_paths, text_paths, word_at}
 
 -- Lists and options by what they are mapped to
@@ -66,6 +66,9 @@ texts_within words (Extract period) extract =
 texts_within words (Receipt nsr) receipt =
     let n : length words ≡ 4 = ap length receipt.spelled in
     All-cons (Within words) 1 [] (omega arith) (All-nil (Within words))
+texts_within words Drill drill =
+    let n : length words ≡ 2 = ap length drill.spelled in
+    All-cons (Within words) 1 [] (omega arith) (All-nil (Within words))
 
 pub outs_within : (words : List (List ℕ)) (asked : Asked) → Asks words asked → All (Within words) (outs_of asked)
 outs_within words (Print zone) print =
@@ -79,6 +82,7 @@ outs_within words (Extract period) extract =
     let n : length words ≡ 6 = ap length extract.spelled in
     All-cons (Within words) 5 [] (omega arith) (All-nil (Within words))
 outs_within words (Receipt nsr) receipt = All-nil (Within words)
+outs_within words Drill drill = All-nil (Within words)
 
 pub disk_within : (words : List (List ℕ)) (asked : Asked) → Asks words asked → IfSome (disk_of asked) (Within words)
 disk_within words (Print zone) print = tt
@@ -86,6 +90,7 @@ disk_within words Create create = (let n : length words ≡ 3 = ap length create
 disk_within words Run run = (let n : length words ≡ 4 = ap length run.spelled in omega arith)
 disk_within words (Extract period) extract = (let n : length words ≡ 6 = ap length extract.spelled in omega arith)
 disk_within words (Receipt nsr) receipt = (let n : length words ≡ 4 = ap length receipt.spelled in omega arith)
+disk_within words Drill drill = tt
 
 -- The words at those places
 
@@ -95,6 +100,7 @@ texts_named words Create create = ap (λ (ws : List (List ℕ)). word_at ws 1 �
 texts_named words Run run = ap (λ (ws : List (List ℕ)). word_at ws 1 ∷ word_at ws 3 ∷ []) run.spelled
 texts_named words (Extract period) extract = ap (λ (ws : List (List ℕ)). word_at ws 1 ∷ []) extract.spelled
 texts_named words (Receipt nsr) receipt = ap (λ (ws : List (List ℕ)). word_at ws 1 ∷ []) receipt.spelled
+texts_named words Drill drill = ap (λ (ws : List (List ℕ)). word_at ws 1 ∷ []) drill.spelled
 
 outs_named : (words : List (List ℕ)) (asked : Asked) (asks : Asks words asked)
     → map (λ (place : ℕ). Some (word_at words place ++ ending_of (command_of asked))) (outs_of asked) ≡ map Some (out_paths words asked asks)
@@ -103,6 +109,7 @@ outs_named words Create create = refl
 outs_named words Run run = ap (λ (ws : List (List ℕ)). Some (word_at ws 3 ++ codes ".out") ∷ []) run.spelled
 outs_named words (Extract period) extract = ap (λ (ws : List (List ℕ)). Some (word_at ws 5 ++ []) ∷ []) extract.spelled ∙ ap (λ (w : List ℕ). Some w ∷ []) (append-nil extract.out)
 outs_named words (Receipt nsr) receipt = refl
+outs_named words Drill drill = refl
 
 disk_named : (words : List (List ℕ)) (asked : Asked) (asks : Asks words asked) → option_map (word_at words) (disk_of asked) ≡ disk_path words asked asks
 disk_named words (Print zone) print = refl
@@ -110,6 +117,7 @@ disk_named words Create create = ap (λ (ws : List (List ℕ)). Some (word_at ws
 disk_named words Run run = ap (λ (ws : List (List ℕ)). Some (word_at ws 2)) run.spelled
 disk_named words (Extract period) extract = ap (λ (ws : List (List ℕ)). Some (word_at ws 2)) extract.spelled
 disk_named words (Receipt nsr) receipt = ap (λ (ws : List (List ℕ)). Some (word_at ws 2)) receipt.spelled
+disk_named words Drill drill = refl
 
 -- The rig
 
@@ -161,6 +169,9 @@ rigged_of path target root read written kept texts outs disk clock (Receipt nsr)
     let site = one_of path texts (read 1) t in
     let drive = present_of root disk (kept 2) d in
     record { site = site.0; drive = drive.0; text_is = site.1; out_is = none_of target outs o; disk_is = drive.1; clock_is = lacking_of clock w }
+rigged_of path target root read written kept texts outs disk clock Drill t o d w =
+    let schedule = one_of path texts (read 1) t in
+    record { schedule = schedule.0; text_is = schedule.1; out_is = none_of target outs o; disk_is = absent_of root disk d; clock_is = lacking_of clock w }
 
 module _ {E S K D C : Type 0} (path : S → List ℕ) (target : K → Option (List ℕ)) (root : D → List ℕ) (words : List (List ℕ)) (made : Result (Rig S K D C) E) where
   pub rigged_if : (command : Command) (texts outs : List ℕ) (disk : Option ℕ) (clock : Bool)

@@ -2,7 +2,7 @@
 use Rattle.std.specs.Prelude.{ℕ, List, [], ◌∷◌, ◌++◌, get_or, codes, Option, None, Some}
 use Rattle.rep_words.specs.Words.{Asks}
 use Rattle.rep_words.specs.declared.words.Asked.{Asked}
-use Rattle.rep_words.specs.declared.words.Asked.TheVariants.{Print, Create, Run, Extract, Receipt}
+use Rattle.rep_words.specs.declared.words.Asked.TheVariants.{Print, Create, Run, Extract, Receipt, Drill}
 
 -- the word at a place, counted from 0
 abbrev pub word_at : List (List ℕ) → ℕ → List ℕ
@@ -15,6 +15,7 @@ text_paths words Create create = create.site ∷ []
 text_paths words Run run = run.site ∷ run.lane ∷ []
 text_paths words (Extract period) extract = extract.site ∷ []
 text_paths words (Receipt nsr) receipt = receipt.site ∷ []
+text_paths words Drill drill = drill.schedule ∷ []
 
 -- the paths of the files that are written: the replies to a lane stand beside it
 abbrev pub out_paths : (words : List (List ℕ)) → (asked : Asked) → Asks words asked → List (List ℕ)
@@ -23,6 +24,7 @@ out_paths words Create create = []
 out_paths words Run run = (run.lane ++ codes ".out") ∷ []
 out_paths words (Extract period) extract = extract.out ∷ []
 out_paths words (Receipt nsr) receipt = []
+out_paths words Drill drill = []
 
 -- the path of the journal
 abbrev pub disk_path : (words : List (List ℕ)) → (asked : Asked) → Asks words asked → Option (List ℕ)
@@ -31,3 +33,4 @@ disk_path words Create create = Some create.journal
 disk_path words Run run = Some run.journal
 disk_path words (Extract period) extract = Some extract.journal
 disk_path words (Receipt nsr) receipt = Some receipt.journal
+disk_path words Drill drill = None

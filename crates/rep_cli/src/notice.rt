@@ -23,6 +23,7 @@ usage: rep print LANE OUT ZONE
        rep run SITE JOURNAL LANE
        rep extract SITE JOURNAL FROM TO OUT
        rep receipt SITE JOURNAL NSR
+       rep drill SCHEDULE
        rep --help
        rep --version
 
@@ -31,6 +32,8 @@ create  makes a journal whose first record is the employer of the site.
 run     answers the lines of one lane over the journal, which keeps what they record.
 extract writes the AFD of a period out of the journal.
 receipt writes the receipt of a clocking to standard output.
+drill   plays a schedule of requests, faults and crashes over a recorder in memory, and says what
+        came of each line.
 
   LANE     the file of a lane: its first line is the head L|ORIGIN|KIND, each line after it a request.
            print wants an operator's lane, of kind 00, that begins with the employer (E|..)
@@ -40,10 +43,11 @@ receipt writes the receipt of a clocking to standard output.
   ZONE     the offset of the recorder's clock from UTC: a sign and four digits, as -0300
   SITE     the file of the site, in TOML: the employer, the recorder, the offset of its clock
   JOURNAL  the file of the journal. One program at a time works on it
+  SCHEDULE the file of a schedule, one event a line: docs/formats.md has their forms
 
 A line is answered by a receipt (R|..), a refusal (N|..) or an extraction (F|.., with the AFD behind
 it): print writes the answers to standard output, run to a file beside the lane's, whose name is LANE
-with .out behind it. Standard output gets the counts (RUN|.., EXTRACT|..), CREATED|1 or the receipt,
+with .out behind it. Standard output gets the counts (RUN|.., EXTRACT|.., DRILL|..), CREATED|1 or the receipt,
 and then, where the status is 2 or more, a line that tells it (FAULT|STATUS|..). docs/formats.md and
 docs/journal-format.md explain the files and these lines.
 
@@ -51,7 +55,7 @@ status   0  all was done
          1  all was done, and some request was refused
          2  the words are those of no command
          3  a text, the dates or the number was refused: FAULT|3|SITE|KEY, FAULT|3|LANE|1|LINE,
-            FAULT|3|DATES, FAULT|3|NOSUCHNSR|NSR or FAULT|3|NOTACLOCKING|NSR
+            FAULT|3|DATES, FAULT|3|NOSUCHNSR|NSR, FAULT|3|NOTACLOCKING|NSR or FAULT|3|SCHEDULE|LINE
          4  a file couldn't be read
          5  a file or standard output couldn't be written
          6  the journal's file failed, or another program works on it

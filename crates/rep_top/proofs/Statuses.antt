@@ -1,5 +1,8 @@
--- `create`, `run`, `extract` and `receipt` don't end by the status of wrong words
+-- `create`, `run`, `extract`, `receipt` and `drill` don't end by the status of wrong words
 use Rattle.std.proofs.Common.{◌≢◌, arith}
+use Rattle.rep_drill.specs.Playing.{status_of as drill_status}
+use Rattle.rep_drill.specs.declared.ending.DrillEnding.{DrillEnding}
+use Rattle.rep_drill.specs.declared.ending.DrillEnding.TheVariants as drilled
 use Rattle.rep_report.specs.Saying.{status_of as ending_status}
 use Rattle.rep_report.specs.declared.ending.Ending.{Ending}
 use Rattle.rep_report.specs.declared.ending.Ending.TheVariants.{AllAnswered, SomeRefused, SourceFault, SinkFault, DeviceFault, ClockFault, OutOfMemory, InputLimit}
@@ -36,3 +39,13 @@ none_isnt_two none.NoSuchNsr e = omega arith
 none_isnt_two none.NotAClocking e = omega arith
 none_isnt_two none.DeviceFault e = omega arith
 none_isnt_two none.OutOfMemory e = omega arith
+
+-- a drill has no disk, and no clock
+pub drill_has_status : (told : DrillEnding) → (drill_status told ≢ 2) × (drill_status told ≢ 6) × (drill_status told ≢ 7)
+drill_has_status drilled.AllPlayed = (λ e. omega arith, λ e. omega arith, λ e. omega arith)
+drill_has_status drilled.SomeRefused = (λ e. omega arith, λ e. omega arith, λ e. omega arith)
+drill_has_status (drilled.Refused line) = (λ e. omega arith, λ e. omega arith, λ e. omega arith)
+drill_has_status drilled.SourceFault = (λ e. omega arith, λ e. omega arith, λ e. omega arith)
+drill_has_status drilled.SinkFault = (λ e. omega arith, λ e. omega arith, λ e. omega arith)
+drill_has_status drilled.OutOfMemory = (λ e. omega arith, λ e. omega arith, λ e. omega arith)
+drill_has_status drilled.InputLimit = (λ e. omega arith, λ e. omega arith, λ e. omega arith)

@@ -1,5 +1,5 @@
 -- Each command over a rig: what it does to the parts that it works on, and when all of it can be done.
-use Rattle.std.specs.Prelude.{◌≡◌, ℕ, List, IfSome, Some, ℤ}
+use Rattle.std.specs.Prelude.{◌≡◌, ◌⊎◌, ℕ, List, IfSome, Some, ℤ}
 use Rattle.afd_records.specs.Record.{IsClocking}
 use Rattle.rep_wire.specs.declared.request.Entry.{Entry}
 use Rattle.rep_core.specs.History.{IsNumbered}
@@ -15,7 +15,10 @@ use Rattle.rep_run.specs.Running as running
 use Rattle.rep_query.specs.Extract as extracting
 use Rattle.rep_query.specs.Opening as opening
 use Rattle.rep_query.specs.Giving.{Answered}
-use Rattle.rep_words.specs.Rigged.{PrintRig, CreateRig, RunRig, ExtractRig, ReceiptRig}
+use Rattle.rep_io.specs.Causes.{Rose}
+use Rattle.rep_io.specs.Cutter.{fresh}
+use Rattle.rep_drill.specs.Playing.{BeginsNot, Drills}
+use Rattle.rep_words.specs.Rigged.{PrintRig, CreateRig, RunRig, ExtractRig, ReceiptRig, DrillRig}
 use Rattle.rep_words.specs.declared.period.Period.{Period}
 use Rattle.rep_words.specs.declared.rig.Rig.{Rig}
 use Rattle.rep_top.specs.Program.{Sense}
@@ -190,3 +193,15 @@ pub record CanAnswer {S K D C : Type 0} (nsr : ℕ) (sense : Sense S K D C) (rig
   pub entry : Entry
   pub numbered : IsNumbered history nsr entry
   pub clocking : IsClocking entry.body
+
+-- `drill`
+
+abbrev pub IsDrillRig : {S K D C : Type 0} → Rig S K D C → Type 0
+IsDrillRig rig = DrillRig rig.texts.items rig.outs.items rig.disk rig.clock
+
+-- The schedule was played; or memory was short before a line was read.
+abbrev pub DrillsOver : {S K D C : Type 0} → Sense S K D C → Rig S K D C → Rig S K D C → ℕ → Type 0
+DrillsOver sense old new status =
+    (before : IsDrillRig old) → (after : IsDrillRig new)
+    → Drills sense.left (fresh before.schedule) (sense.written old.out) (sense.written new.out) (sense.sink_faults old.out) (sense.sink_faults new.out) status
+    ⊎ BeginsNot before.schedule after.schedule (sense.written old.out) (sense.written new.out) (Rose (sense.sink_faults old.out) (sense.sink_faults new.out)) status

@@ -3,6 +3,9 @@
 #![tactic(auto)]
 
 mod creating;
+#[cfg(test)]
+mod drill_tests;
+mod drilling;
 mod extracting;
 mod giving;
 #[cfg(test)]

@@ -1,10 +1,11 @@
 ghost use Rattle.std.specs.Prelude.{◌≡◌, ◌≢◌, ◌⊎◌, ℕ, ℤ, None, Some, map, string_bytes};
-ghost use Rattle.rep_words.specs.Words.{Asks, IsCreate, IsExtract, IsOnGrammar, IsPrint, IsReceipt, IsRun};
+ghost use Rattle.rep_words.specs.Words.{Asks, IsCreate, IsDrill, IsExtract, IsOnGrammar, IsPrint, IsReceipt, IsRun};
 ghost use Rattle.rep_words.specs.declared.period.Period.{Period};
 ghost use Rattle.rep_top.specs.Program.{ClockFailed, DiskFailed, IsRiggedFor, NothingFailed, Refuses, RefusesDates, SinkFailed, SourceFailed, sense_of};
-ghost use Rattle.rep_top.specs.Commands.{AnswersOver, CanAnswer, CanCreate, CanExtract, CanPrint, CanRun, CreatesOver, CreatesSafely, ExtractsOver, LeavesFile, PrintsOver, RunsOver};
+ghost use Rattle.rep_top.specs.Commands.{AnswersOver, CanAnswer, CanCreate, CanExtract, CanPrint, CanRun, CreatesOver, CreatesSafely, DrillsOver, ExtractsOver, LeavesFile, PrintsOver, RunsOver};
 
 use crate::creating::create_over;
+use crate::drilling::drill_over;
 use crate::extracting::extract_over;
 use crate::giving::receipt_over;
 use crate::printing::print_over;
@@ -57,6 +58,11 @@ pub fn top<S: Source, K: Sink, D: Disk, C: Clock>(
     ensures answered { (nsr : ℕ) → IsReceipt (map string_bytes words.now) nsr
         → AnswersOver nsr (sense_of S.left S.faults K.written K.faults D.shown C.readings C.faults) rig result.rig result.status }
 
+    // `drill`: the lines of the schedule were played over a world of the sample site, one after another, and what is said of each
+    // is what its event showed, however it ends.
+    ensures drilled { IsDrill (map string_bytes words.now)
+        → DrillsOver (sense_of S.left S.faults K.written K.faults D.shown C.readings C.faults) rig result.rig result.status }
+
     // A fault of the outside is told only where that object's count rose in this call.
     ensures source_fault { result.status ≡ 4 → SourceFailed (sense_of S.left S.faults K.written K.faults D.shown C.readings C.faults) rig result.rig }
     ensures sink_fault { result.status ≡ 5 → SinkFailed (sense_of S.left S.faults K.written K.faults D.shown C.readings C.faults) rig result.rig }
@@ -96,6 +102,7 @@ pub fn top<S: Source, K: Sink, D: Disk, C: Clock>(
         ) => extract_over(alloc, period, rig),
         Some(Asked::Extract { period: None }) => refuse_period(rig),
         Some(Asked::Receipt { nsr }) => receipt_over(alloc, nsr, rig),
+        Some(Asked::Drill) => drill_over(alloc, rig),
         None => refuse(rig),
     }
 }

@@ -225,6 +225,22 @@ pub(crate) fn receipt(
     Ok(top(alloc, &words, rig))
 }
 
+/// What `drill` leaves of a schedule whose source fails at these calls.
+pub(crate) fn drill(alloc: Global, schedule: &[u8], fails: &[u64]) -> Result<MemOutcome, Fail> {
+    let words = words_of(alloc, &["drill", "schedule"])?;
+    let rig = Rig {
+        texts: vec![in alloc; source_of(alloc, &[schedule], fails)?]?,
+        outs: Vec::new(alloc),
+        disk: None,
+        clock: None,
+        out: MemSink::new(alloc, 4096, Vec::new(alloc))?,
+    };
+    let Some(Asked::Drill) = asked_of(&words) else {
+        return Err("not the words of drill".into());
+    };
+    Ok(top(alloc, &words, rig))
+}
+
 /// The bytes of the AFD's file or of the replies, none where there is no file.
 pub(crate) fn file_of(outcome: &MemOutcome) -> &[u8] {
     match outcome.rig.outs.first() {

@@ -1,6 +1,13 @@
 -- lists of a known length, by their elements
 use Rattle.std.proofs.Common.{◌≡◌, List, [], ◌∷◌, length, get_or, arith}
 
+-- a list of two
+pub two_from_reads : {X : Type 0} (xs : List X) (a b : X) → length xs ≡ 2 → a ≡ get_or xs 0 a → b ≡ get_or xs 1 b → xs ≡ a ∷ b ∷ []
+two_from_reads [] a b n p q = absurd (omega arith)
+two_from_reads (x ∷ []) a b n p q = absurd (omega arith)
+two_from_reads (x ∷ y ∷ []) a b n p q = cc
+two_from_reads (x ∷ y ∷ z ∷ xs) a b n p q = absurd (omega arith)
+
 -- a list of three
 pub three_from_reads : {X : Type 0} (xs : List X) (a b c : X) → length xs ≡ 3 → a ≡ get_or xs 0 a → b ≡ get_or xs 1 b → c ≡ get_or xs 2 c → xs ≡ a ∷ b ∷ c ∷ []
 three_from_reads [] a b c n p q r = absurd (omega arith)

@@ -1,7 +1,7 @@
 -- What a command is handed: its texts, files, disk and clock, by their names.
 use Rattle.std.specs.Prelude.{◌≡◌, List, [], ◌∷◌, Option, None, Some}
 use Rattle.rep_words.specs.declared.words.Asked.{Asked}
-use Rattle.rep_words.specs.declared.words.Asked.TheVariants.{Print, Create, Run, Extract, Receipt}
+use Rattle.rep_words.specs.declared.words.Asked.TheVariants.{Print, Create, Run, Extract, Receipt, Drill}
 
 -- `print`: the lane's text, the file of its AFD, and the clock
 pub record PrintRig {S K D C : Type 0} (texts : List S) (outs : List K) (disk : Option D) (clock : Option C) : Type 0 where
@@ -55,6 +55,14 @@ pub record ReceiptRig {S K D C : Type 0} (texts : List S) (outs : List K) (disk 
   pub disk_is : disk ≡ Some drive
   pub clock_is : clock ≡ None
 
+-- `drill`: the schedule's text
+pub record DrillRig {S K D C : Type 0} (texts : List S) (outs : List K) (disk : Option D) (clock : Option C) : Type 0 where
+  pub schedule : S
+  pub text_is : texts ≡ schedule ∷ []
+  pub out_is : outs ≡ []
+  pub disk_is : disk ≡ None
+  pub clock_is : clock ≡ None
+
 -- just the texts, files, disk and clock that are used for what is asked
 abbrev pub IsRigged : {S K D C : Type 0} → Asked → List S → List K → Option D → Option C → Type 0
 IsRigged (Print zone) texts outs disk clock = PrintRig texts outs disk clock
@@ -62,3 +70,4 @@ IsRigged Create texts outs disk clock = CreateRig texts outs disk clock
 IsRigged Run texts outs disk clock = RunRig texts outs disk clock
 IsRigged (Extract period) texts outs disk clock = ExtractRig texts outs disk clock
 IsRigged (Receipt nsr) texts outs disk clock = ReceiptRig texts outs disk clock
+IsRigged Drill texts outs disk clock = DrillRig texts outs disk clock

@@ -4,7 +4,7 @@ use Rattle.rep_fields.specs.Calendar.{IsDay, day_text}
 use Rattle.rep_fields.specs.Digits.{FitsDigits, numeral}
 use Rattle.rep_fields.specs.Moment.{IsOffset, offset_text}
 use Rattle.rep_words.specs.declared.words.Asked.{Asked}
-use Rattle.rep_words.specs.declared.words.Asked.TheVariants.{Print, Create, Run, Extract, Receipt}
+use Rattle.rep_words.specs.declared.words.Asked.TheVariants.{Print, Create, Run, Extract, Receipt, Drill}
 use Rattle.rep_words.specs.declared.period.Period.{Period}
 
 -- `print LANE OUT ZONE`: a lane file, the file of its AFD, and the offset from UTC at which the recorder's clock
@@ -85,6 +85,12 @@ pub record IsReceipt (words : List (List ℕ)) (nsr : ℕ) : Type 0 where
   pub journal_named : journal ≢ []
   pub numbered : IsNsrWord number nsr
 
+-- `drill SCHEDULE`: the file of a schedule
+pub record IsDrill (words : List (List ℕ)) : Type 0 where
+  pub schedule : List ℕ
+  pub spelled : words ≡ codes "drill" ∷ schedule ∷ []
+  pub schedule_named : schedule ≢ []
+
 -- the words ask for this
 abbrev pub Asks : List (List ℕ) → Asked → Type 0
 Asks words (Print zone) = IsPrint words zone
@@ -92,6 +98,7 @@ Asks words Create = IsCreate words
 Asks words Run = IsRun words
 Asks words (Extract period) = IsExtract words period
 Asks words (Receipt nsr) = IsReceipt words nsr
+Asks words Drill = IsDrill words
 
 -- the words are those of some command
 abbrev pub IsOnGrammar : List (List ℕ) → Type 0

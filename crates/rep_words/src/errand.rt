@@ -13,6 +13,7 @@ pub enum Command {
     Run,
     Extract,
     Receipt,
+    Drill,
 }
 
 impl Command {
@@ -22,7 +23,11 @@ impl Command {
         ensures { result.now ≡ ending_of self }
     {
         match self {
-            Command::Print | Command::Create | Command::Extract | Command::Receipt => "",
+            Command::Print
+            | Command::Create
+            | Command::Extract
+            | Command::Receipt
+            | Command::Drill => "",
             Command::Run => ".out",
         }
     }
@@ -97,6 +102,7 @@ fn errand_of(alloc: Global, asked: Asked) -> Result<Errand, WordsFault>
             Asked::Run => (Command::Run, &[1, 3], &[3], Some(2), true),
             Asked::Extract { .. } => (Command::Extract, &[1], &[5], Some(2), true),
             Asked::Receipt { .. } => (Command::Receipt, &[1], &[], Some(2), false),
+            Asked::Drill => (Command::Drill, &[1], &[], None, false),
         };
     Ok(Errand {
         command,

@@ -105,6 +105,10 @@ fn words_ask_for_a_command(rt: HostRuntime) -> Result<(), Fail> {
             None,
             "a word too many",
         ),
+        (&["drill", "schedule"], Some(Asked::Drill), "drill"),
+        (&["drill", ""], None, "an empty path"),
+        (&["drill"], None, "no schedule"),
+        (&["drill", "schedule", "j"], None, "a word too many"),
     ];
     for (words, asked, message) in rows {
         let words = words_of(alloc, words)?;
@@ -162,6 +166,7 @@ fn an_errand_has_the_places_of_what_the_words_name(rt: HostRuntime) -> Result<()
             Some(2),
             "",
         ),
+        (&["drill", "schedule"], Command::Drill, &[1], &[], None, ""),
     ];
     for (words, command, texts, outs, disk, ending) in rows {
         let words = words_of(alloc, words)?;
@@ -170,7 +175,8 @@ fn an_errand_has_the_places_of_what_the_words_name(rt: HostRuntime) -> Result<()
         assert_eq!(rt; errand.texts.as_slice(), *texts, "{command:?}");
         assert_eq!(rt; errand.outs.as_slice(), *outs, "{command:?}");
         assert_eq!(rt; errand.disk, *disk, "{command:?}");
-        assert_eq!(rt; errand.clock, *command != Command::Receipt, "{command:?}");
+        let clock = *command != Command::Receipt && *command != Command::Drill;
+        assert_eq!(rt; errand.clock, clock, "{command:?}");
         assert_eq!(rt; command.ending(), *ending, "{command:?}");
     }
     Ok(())

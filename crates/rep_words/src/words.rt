@@ -1,5 +1,5 @@
 ghost use Rattle.std.specs.Prelude.{◌≡◌, ◌∷◌, [], ℕ, ℤ, Option, Some, map, string_bytes, IfSome, IsTrue};
-ghost use Rattle.rep_words.specs.Words.{Asks, IsCreate, IsExtract, IsPrint, IsReceipt, IsRun};
+ghost use Rattle.rep_words.specs.Words.{Asks, IsCreate, IsDrill, IsExtract, IsPrint, IsReceipt, IsRun};
 ghost use Rattle.rep_words.specs.declared.period.Period.{Period as ThePeriod};
 
 use crate::period::{Period, read_nsr, read_period};
@@ -18,6 +18,8 @@ pub enum Asked {
     Extract { period: Option<Period> },
     /// `receipt SITE JOURNAL NSR`, and the number of the record that NSR is.
     Receipt { nsr: u32 },
+    /// `drill SCHEDULE`.
+    Drill,
 }
 
 /// What the words ask for. `None` exactly where they are those of no command.
@@ -39,6 +41,9 @@ pub fn asked_of(words: &[String]) -> Option<Asked>
     }
     if let Some(nsr) = receipt_nsr(words) {
         return Some(Asked::Receipt { nsr });
+    }
+    if is_drill(words) {
+        return Some(Asked::Drill);
     }
     None
 }
@@ -122,5 +127,16 @@ fn receipt_nsr(words: &[String]) -> Option<u32>
             }
         }
         _ => None,
+    }
+}
+
+/// Whether the words are those of `drill SCHEDULE`.
+fn is_drill(words: &[String]) -> bool
+    ensures found { IsTrue result → IsDrill (map string_bytes words.now) }
+    ensures only { IsDrill (map string_bytes words.now) → IsTrue result }
+{
+    match words {
+        [command, schedule] => command.as_str() == "drill" && !schedule.is_empty(),
+        _ => false,
     }
 }

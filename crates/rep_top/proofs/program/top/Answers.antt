@@ -1,7 +1,7 @@
 use Rattle.std.proofs.Common.{rules, ◌≡◌, ◌∙◌, ℕ, None, Some, ℤ, w16, to_z, of_z, sym, subst, inl}
 use Rattle.rep_core.specs.History.{IsNumbered}
 use Rattle.rep_words.specs.declared.period.Period.{Period}
-use Rattle.rep_words.specs.declared.words.Asked.TheVariants.{Print, Create, Run, Extract, Receipt}
+use Rattle.rep_words.specs.declared.words.Asked.TheVariants.{Print, Create, Run, Extract, Receipt, Drill}
 use Rattle.rep_top.specs.Program.{sense_of}
 use Rattle.rep_top.specs.Commands.{AnswersOver, ExtractsOver, PrintsOver}
 use Rattle.rep_top.proofs.Rising.{one_rose, first_rose, second_rose, file_rose, that_rose, none_isnt_some}
@@ -122,3 +122,6 @@ returns-in-Some-Receipt-clause-answers_all g c nsr is can none =
     (λ rose. none.sources (one_rose g.S.Source.faults _ _ before.site after.site before.text_is after.text_is rose))
     (λ rose. none.sinks (inl rose))
     (λ rose. none.disk (that_rose (λ d. (g.D.Disk.shown d).faults) _ _ before.drive after.drive before.disk_is after.disk_is rose))
+
+pub returns-in-None-clause-drilled : goal.returns-in-None-clause-drilled
+returns-in-None-clause-drilled g c is = absurd (none_isnt_some c.asked_of.result Drill c.in-None.is (c.asked_of.ensures.only Drill is))

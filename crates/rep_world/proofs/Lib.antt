@@ -1,0 +1,13 @@
+pub mod Histories
+pub mod Worlds
+pub mod Disks
+pub mod Trials
+pub mod Events
+pub mod Plays
+pub mod Serving
+pub mod Messages
+pub mod Makings
+pub mod Rooms
+pub mod Pushes
+pub mod Deliveries
+pub mod Extractions
