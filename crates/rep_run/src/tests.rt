@@ -78,6 +78,19 @@ fn sound<'a>(lane: &'a [&'a [u8]], contents: &'a [u8]) -> World<'a> {
     }
 }
 
+// Of a site; and the calls of the clock that are given fail.
+fn timeless<'a>(
+    site: &'a [u8],
+    lane: &'a [&'a [u8]],
+    contents: &'a [u8],
+    fails: &'a [u64],
+) -> World<'a> {
+    let mut world = sound(lane, contents);
+    world.site = site;
+    world.clock_fails = fails;
+    world
+}
+
 fn source_of(alloc: Global, pieces: &[&[u8]], fails: &[u64]) -> Result<MemSource, OutOfMemory> {
     let mut all = Vec::new(alloc);
     for piece in pieces {

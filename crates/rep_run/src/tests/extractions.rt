@@ -107,37 +107,104 @@ fn a_sink_that_fails_cuts_the_extraction(rt: HostRuntime) -> Result<(), Fail> {
     Ok(())
 }
 
-// Each call of the disk fails in turn: where the store is open by then, a front of the extraction may stand.
+// Each call of the disk fails in turn. All of them open the store, since the journal keeps its frames: where one fails,
+// no line is served.
 #[test]
-fn a_disk_that_fails_cuts_the_extraction(rt: HostRuntime) -> Result<(), Fail> {
+fn a_disk_that_fails_extracts_nothing(rt: HostRuntime) -> Result<(), Fail> {
     let alloc = rt.alloc();
     let contents = journal_of(alloc, 3)?;
     let wanted = extraction(alloc)?;
     let lane = [ORDER];
-    let mut within = 0u32;
+    let mut failed = 0u32;
     let mut whole = 0u32;
-    for call in 0..64u64 {
+    for call in 0..16u64 {
         let fails = [call];
         let mut world = sound(&lane, &contents);
         world.minute = NINE;
         world.disk_fails = &fails;
         let done = served(alloc, &world)?;
-        let replies = done.replies.bytes();
         assert_eq!(rt; done.disk.bytes(), contents.as_slice(), "{call}");
         if done.status == 0 {
             whole = whole.saturating_add(1);
-            assert_bytes(&rt, replies, &wanted, "whole");
-            continue;
-        }
-        assert_eq!(rt; done.status, 6, "{call}");
-        assert!(rt; replies.len() < wanted.len(), "{call}");
-        assert_bytes(&rt, replies, front(&wanted, replies.len()), "a front");
-        if !done.out.bytes().is_empty() {
-            within = within.saturating_add(1);
-            assert_bytes(&rt, done.out.bytes(), b"RUN|1|0|0|0|3\nFAULT|6\n", "cut");
+            assert_bytes(&rt, done.replies.bytes(), &wanted, "whole");
+        } else {
+            failed = failed.saturating_add(1);
+            assert_eq!(rt; done.status, 6, "{call}");
+            assert_eq!(rt; done.replies.bytes().len(), 0, "{call}");
+            assert_bytes(&rt, done.out.bytes(), b"FAULT|6\n", "no lane is counted");
         }
     }
-    assert!(rt; within > 0 && whole > 0, "both came");
+    assert!(rt; failed > 1 && whole > 1, "both came");
+    Ok(())
+}
+
+#[test]
+fn a_clock_that_fails_extracts_nothing(rt: HostRuntime) -> Result<(), Fail> {
+    let alloc = rt.alloc();
+    let contents = journal_of(alloc, 3)?;
+    let lane = [ORDER];
+    let fails = [0u64];
+    let mut world = sound(&lane, &contents);
+    world.clock_fails = &fails;
+    let done = served(alloc, &world)?;
+    let said = Said {
+        status: 7,
+        replies: b"",
+        out: b"RUN|1|0|0|0|3\nFAULT|7\n",
+    };
+    assert_said(&rt, &done, &said, "a clock fault");
+    Ok(())
+}
+
+// Serves a line over a journal of three entries, which orders no extraction: one refusal, and no reading is taken.
+fn assert_no_period(
+    rt: &impl Abort,
+    alloc: Global,
+    lane: &[u8],
+    reply: &[u8],
+    message: &str,
+) -> Result<(), OutOfMemory> {
+    let contents = journal_of(alloc, 3)?;
+    let pieces = [lane];
+    let fails = [0u64];
+    let done = served(alloc, &timeless(SITE, &pieces, &contents, &fails))?;
+    assert_eq!(rt; done.status, 1, "{message}");
+    assert_bytes(rt, done.replies.bytes(), reply, message);
+    assert_bytes(rt, done.out.bytes(), b"RUN|1|1|0|1|3\n", message);
+    Ok(())
+}
+
+#[test]
+fn no_other_lane_and_no_period_from_its_end_extracts(rt: HostRuntime) -> Result<(), Fail> {
+    let alloc = rt.alloc();
+    assert_no_period(
+        &rt,
+        alloc,
+        b"L|1|01\nX|9|2024-03-04|2024-03-04\n",
+        b"N|2|9|01|3\n",
+        "a collector's lane",
+    )?;
+    assert_no_period(
+        &rt,
+        alloc,
+        b"L|9|00\nX|9|2024-03-05|2024-03-04\n",
+        b"N|2|9|01|3\n",
+        "the last day before the first",
+    )?;
+    assert_no_period(
+        &rt,
+        alloc,
+        b"L|9|00\nX|9|2024-02-30|2024-03-04\n",
+        b"N|2|9|01|3\n",
+        "no day",
+    )?;
+    assert_no_period(
+        &rt,
+        alloc,
+        b"L|9|00\nX|0|2024-03-04|2024-03-04\n",
+        b"N|2|0|01|3\n",
+        "no sequence number",
+    )?;
     Ok(())
 }
 

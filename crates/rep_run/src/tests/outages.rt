@@ -141,3 +141,44 @@ fn each_fault_of_the_outside_is_told(rt: HostRuntime) -> Result<(), Fail> {
     }
     Ok(())
 }
+
+// Maria's three clockings.
+const THREE: &[u8] = b"L|1|01\nM|1|11144477735|0\nM|2|11144477735|0\nM|3|11144477735|0\n";
+
+// Their receipts, where two of them stood before.
+const THREE_RECEIPTS: &[u8] = b"R|2|1|3|2024-03-04T08:00:00-0300|2024-03-04T08:00:00-0300|\
+    0c786fe238ba3efaaaf42982235b5c5e198167d95c60223b6de19ab7c594cabd|4\n\
+    R|3|2|4|2024-03-04T08:00:00-0300|2024-03-04T08:00:00-0300|\
+    960520bfbbd8b0d5463df34998df1ea680e1ddc8adb311c75de53d603a3f7f75|4\n\
+    R|4|3|5|2024-03-04T08:00:00-0300|2024-03-04T08:00:00-0300|\
+    49dee1bc059f6cbcc976a68833c9753c2962e670c75cfdf87f79149851b7e4f7|5\n";
+
+#[test]
+fn a_lane_that_was_cut_is_served_again(rt: HostRuntime) -> Result<(), Fail> {
+    let alloc = rt.alloc();
+    let contents = journal_of(alloc, 2)?;
+    let lane = [THREE];
+    let fails = [1u64];
+    let mut world = sound(&lane, &contents);
+    world.reply_fails = &fails;
+    let done = served(alloc, &world)?;
+    let cut = Said {
+        status: 5,
+        replies: RECEIPT,
+        out: b"RUN|1|1|1|0|4\nFAULT|5\n",
+    };
+    assert_said(
+        &rt,
+        &done,
+        &cut,
+        "the second reply isn't written, but its entry stands",
+    );
+    let again = served(alloc, &sound(&lane, done.disk.bytes()))?;
+    let whole = Said {
+        status: 0,
+        replies: THREE_RECEIPTS,
+        out: b"RUN|1|3|3|0|5\n",
+    };
+    assert_said(&rt, &again, &whole, "the same lane again");
+    Ok(())
+}
