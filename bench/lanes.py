@@ -15,10 +15,10 @@ def workers(count):
     return [cpf(str(100000001 + i)) for i in range(count)]
 
 
-def inclusions(count, origin=9):
+def inclusions(count, origin=9, first=1):
     """An operator's lane that includes so many employees."""
     lines = [f"L|{origin}|00"]
-    lines += [f"C|{i + 1}|I|{worker}|W{i:04}||52998224725" for i, worker in enumerate(workers(count))]
+    lines += [f"C|{first + i}|I|{worker}|W{i:04}||52998224725" for i, worker in enumerate(workers(count))]
     return "\n".join(lines) + "\n"
 
 
@@ -36,10 +36,12 @@ def clockings(count, of, origin=1, first=1):
     return "\n".join(lines) + "\n"
 
 
-def both(included, clocked, origin=9):
-    """An operator's lane that includes employees and then clocks them."""
-    marks = clockings(clocked, included, origin, included + 1).split("\n", 1)[1]
-    return inclusions(included, origin) + marks
+def printed(included, clocked, origin=9):
+    """An operator's lane for `print`: the employer's record, inclusions, and clockings of those in turn."""
+    employer = "E|1|52998224725|1|11222333000181||ACME LTDA|RUA A 1"
+    head, *workers = inclusions(included, origin, first=2).splitlines()
+    marks = clockings(clocked, included, origin, first=included + 2).splitlines()[1:]
+    return "\n".join([head, employer, *workers, *marks]) + "\n"
 
 
 def resent(count, of, seed, origin=1):

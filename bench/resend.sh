@@ -6,47 +6,28 @@
 # usage: bench/resend.sh [PROGRAM] [FOLDER] [ROUNDS]
 set -eu
 cd "$(dirname "$0")/.."
-program=$(realpath "${1:-crates/rep_cli/out/rep_cli}")
-folder=${2:-${TMPDIR:-/tmp}}
-rounds=${3:-5}
-[ -x "$program" ] || { echo "build it first: cd crates/rep_cli && rt run -- --version" >&2; exit 2; }
-command -v cc >/dev/null || { echo "a C compiler is needed for the loop" >&2; exit 2; }
-work=$(mktemp -d "$folder/bench.XXXXXX"); trap 'rm -rf "$work"' EXIT
+program=${1:-} folder=${2:-} rounds=${3:-5}
+. bench/prelude.sh
+need cc "a C compiler, for the loop,"
 cc -O2 -Wall -o "$work/loop" bench/journal_loop.c
-PYTHONPATH="$PWD/bench" PYTHONDONTWRITEBYTECODE=1 python3 - "$program" "$work" "$rounds" <<'P'
-import os, statistics, subprocess, sys, time
+timed "$rounds" <<'P'
+import statistics, sys
 import lanes
-program, work, rounds = sys.argv[1], sys.argv[2], int(sys.argv[3])
+from proved import Bench
+bench, rounds = Bench(*sys.argv[1:3]), int(sys.argv[3])
 records, staff = 2500, 50
-lines, last = 2 * records, 1 + staff + records
-def path(name): return os.path.join(work, name)
-def write(name, text):
-    with open(path(name), "w") as file: file.write(text)
-def call(*words):
-    begin = time.perf_counter()
-    done = subprocess.run([program, *words], stdout=subprocess.PIPE)
-    took = time.perf_counter() - begin
-    if done.returncode != 0: sys.exit(f"{words[0]}: status {done.returncode}, {done.stdout!r}")
-    return done.stdout.decode(), took
-def timed(lane, counted):
-    said, took = call("run", path("site"), path("journal"), path(lane))
-    if said != f"RUN|1|{counted}|{counted}|0|{last}\n": sys.exit(said)
-    return took
-write("site", lanes.SITE)
-write("workers", lanes.inclusions(staff))
-write("resent", lanes.resent(records, staff, seed=671))
-write("head", "L|1|01\n")
+lines = 2 * records
+bench.write("resent", lanes.resent(records, staff, seed=671))
+bench.write("head", "L|1|01\n")
 half, loop, again = [], [], []
 for _ in range(rounds):
-    for name in ("journal", "loop.journal"):
-        if os.path.exists(path(name)): os.remove(path(name))
-    call("create", path("site"), path("journal"))
-    call("run", path("site"), path("journal"), path("workers"))
-    half.append(timed("resent", lines))
-    done = subprocess.run([path("loop"), path("loop.journal"), str(records), "fdatasync"], stdout=subprocess.PIPE, check=True)
-    loop.append(float(done.stdout))
+    last = bench.begin_journal(staff) + records
+    served = f"RUN|1|{lines}|{lines}|0|{last}"
+    half.append(bench.run("run", "site", "journal", "resent", last=served)[0])
+    loop.append(bench.loop(records, "fdatasync"))
     # what the program and its reopening take is no part of what a line takes
-    again.append((timed("resent", lines) - timed("head", 0)) / lines)
+    opened, _ = bench.run("run", "site", "journal", "head", last=f"RUN|1|0|0|0|{last}")
+    again.append((bench.run("run", "site", "journal", "resent", last=served)[0] - opened) / lines)
 print(f"{lines} lines, {records} of them sent again: {statistics.median(half) * 1000:.0f} ms, from start to end of the program")
 print(f"C loop, {records} records, fdatasync: {statistics.median(loop) * 1000:.0f} ms")
 ratio = statistics.median(b / a for a, b in zip(half, loop))
