@@ -1,3 +1,5 @@
+ghost use Rattle.rep_world.specs.Events.{IsPlayable};
+
 use super::*;
 
 const RECEIPT_6: &[u8] = b"R|6|1|3|2024-03-04T08:01:00-0300|2024-03-04T08:01:00-0300|\
@@ -145,62 +147,56 @@ fn what_was_sent_stays_under_way(rt: HostRuntime) -> Result<(), Fail> {
     see(&rt, alloc, &mut world, 6, &deliver, reply)
 }
 
+// An event that names a message which wasn't sent isn't played.
+fn unsent(rt: &impl Abort, world: &mut World, event: &Event, message: &str)
+    requires { IsPlayable event.now }
+{
+    let _inside: Inside = (None, None);
+    match world.step(event) {
+        Err(WorldStop::NotSent) => {}
+        Ok(_) | Err(WorldStop::OutOfMemory) => panic!(rt; "{message}"),
+    }
+}
+
+// None of the events that can name this message is played.
+fn all_unsent(rt: &impl Abort, world: &mut World, k: u32) {
+    let deliver = Event::Deliver {
+        k,
+        minute: EIGHT,
+        lost: false,
+    };
+    unsent(rt, world, &deliver, "a delivery");
+    let fail = Event::Fail {
+        k,
+        minute: EIGHT,
+        call: 1,
+    };
+    unsent(rt, world, &fail, "a failure");
+    let crash = Event::Crash {
+        k,
+        minute: EIGHT,
+        call: 1,
+        image: Image::Old,
+    };
+    unsent(rt, world, &crash, "a crash");
+}
+
 #[test]
 fn a_message_that_was_not_sent_is_no_event(rt: HostRuntime) -> Result<(), Fail> {
     let alloc = rt.alloc();
     let mut world = world_of(&rt, alloc)?;
-    let maria = asked(&rt, DESK, MARIA);
     for k in [0u32, 1, 2] {
-        let deliver = Event::Deliver {
-            k,
-            minute: EIGHT,
-            lost: false,
-        };
-        let stop = world.step(&deliver).err();
-        assert!(rt; matches!(stop, Some(WorldStop::NotSent)), "{k}");
+        all_unsent(&rt, &mut world, k);
     }
-    see(
-        &rt,
-        alloc,
-        &mut world,
-        1,
-        &Event::Send { request: maria },
-        b"S|1|1\n",
-    )?;
-    see(
-        &rt,
-        alloc,
-        &mut world,
-        2,
-        &Event::Rest { image: Image::Old },
-        b"C|2|1\n",
-    )?;
+    Ok(())
+}
+
+#[test]
+fn a_message_that_was_not_sent_is_no_event_while_down(rt: HostRuntime) -> Result<(), Fail> {
+    let alloc = rt.alloc();
+    let mut world = crashed(&rt, alloc)?;
     for k in [0u32, 2] {
-        let deliver = Event::Deliver {
-            k,
-            minute: EIGHT,
-            lost: false,
-        };
-        let stop = world.step(&deliver).err();
-        assert!(rt;
-            matches!(stop, Some(WorldStop::NotSent)),
-            "{k} to a recorder that is down"
-        );
-        let fail = Event::Fail {
-            k,
-            minute: EIGHT,
-            call: 1,
-        };
-        let stop = world.step(&fail).err();
-        assert!(rt; matches!(stop, Some(WorldStop::NotSent)), "{k} while down");
-        let crash = Event::Crash {
-            k,
-            minute: EIGHT,
-            call: 1,
-            image: Image::Old,
-        };
-        let stop = world.step(&crash).err();
-        assert!(rt; matches!(stop, Some(WorldStop::NotSent)), "{k} in a crash");
+        all_unsent(&rt, &mut world, k);
     }
     Ok(())
 }
