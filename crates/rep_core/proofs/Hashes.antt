@@ -167,14 +167,9 @@ pub slip-is : (h : List Entry) (nsr : ℕ) (body : Body) (marked : Option Moment
 slip-is h nsr body marked recorded hash marked_is recorded_is hash_is = cc
 
 -- the core's lists after a record was added, as code writes it
-pub append_in_step : (h h' : List Entry) (hashes hashes' : List (Option (List ℕ))) (e here : Entry) (hash tip told tip' : Option (List ℕ)) (count : ℕ) → IsInStep h hashes tip → length h < last_nsr → HasText e.body → h' ≡ h ++ e ∷ [] → count ≡ length h' → here ≡ get_or h' (count - 1) here → told ≡ tip → hash ≡ linked count here.body told → HasHash here.body hash → hashes' ≡ hashes ++ hash ∷ [] → tip' ≡ option_or hash tip → IsInStep h' hashes' tip'
-append_in_step h h' hashes hashes' e here hash tip told tip' count step room text h'_is count_is at told_is hash_is given hashes'_is tip'_is =
-    let number : count ≡ suc (length h) = omega (arith, count_is, ap length h'_is, length-append h (e ∷ [])) in
-    let here_is : here ≡ e = at ∙ ap (λ xs. get_or xs (count - 1) here) h'_is ∙ get_or_push h e here (count - 1) (omega arith) in
-    let hash_behind_is : hash ≡ hash_behind h e.body =
-    hash_is ∙ ap (λ o. linked count here.body o) told_is ∙ ap (λ (d : Entry). linked count d.body tip) here_is
-    ∙ linked-behind h e.body tip count step.tip_is number in
-    let added = IsInStep-push h hashes e hash tip step room text hash_behind_is (subst (λ (d : Entry). HasHash d.body hash) here_is given) in
+pub append_in_step : (h h' : List Entry) (hashes hashes' : List (Option (List ℕ))) (e : Entry) (hash tip tip' : Option (List ℕ)) → IsInStep h hashes tip → length h < last_nsr → HasText e.body → hash ≡ hash_behind h e.body → HasHash e.body hash → h' ≡ h ++ e ∷ [] → hashes' ≡ hashes ++ hash ∷ [] → tip' ≡ option_or hash tip → IsInStep h' hashes' tip'
+append_in_step h h' hashes hashes' e hash tip tip' step room text is given h'_is hashes'_is tip'_is =
+    let added = IsInStep-push h hashes e hash tip step room text is given in
     subst (λ xs. IsInStep xs hashes' tip') (sym h'_is)
     (subst (λ xs. IsInStep (h ++ e ∷ []) xs tip') (sym hashes'_is)
     (subst (λ o. IsInStep (h ++ e ∷ []) (hashes ++ hash ∷ []) o) (sym tip'_is) added))

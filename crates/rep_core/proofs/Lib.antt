@@ -6,6 +6,7 @@ pub mod Verdicts
 pub mod Lines
 pub mod Payloads
 pub mod Hashes
+pub mod HashTexts
 pub mod Standing
 pub mod Validity
 pub mod Pairs

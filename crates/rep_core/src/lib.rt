@@ -15,7 +15,8 @@
 //! };
 //! ```
 //!
-//! Only `reserve` takes memory. After it, `line` gives the line of the record that `accept` will add.
+//! Only `reserve` takes memory. After it, `line` gives the line of the record that `accept` will add. Where that line is at
+//! hand, `accept_line` adds the record with the hash in it, and hashes nothing.
 #![tactic(auto)]
 
 mod index;

@@ -4,8 +4,9 @@ ghost use Rattle.afd_records.specs.Line.{IsHashText, HasHash};
 ghost use Rattle.rep_wire.specs.Reply.{hash_text};
 ghost use Rattle.rep_wire.specs.Request.{IsRequest, IsFounding};
 ghost use Rattle.rep_wire.specs.declared.request.Entry.{Entry};
-ghost use Rattle.rep_core.specs.Answered.{marked_in};
-ghost use Rattle.rep_core.specs.Hashes.{linked};
+ghost use Rattle.rep_core.specs.Answered.{entry_of, marked_in};
+ghost use Rattle.rep_core.specs.Chained.{next_line};
+ghost use Rattle.rep_core.specs.Hashes.{hash_behind, linked};
 
 use crate::index::Index;
 use crate::registration::{is_known, may_be};
@@ -55,7 +56,8 @@ impl Core {
     ghost use Rattle.rep_core.specs.Core.{Kept, Stands, IsLimit, IsReady, room_of};
     ghost use Rattle.rep_core.specs.History.{IsNumbered, IsNew, last_worker};
     ghost use Rattle.rep_core.specs.Lookup.{FindsPair, KeepsPair, FindsEmployer};
-    ghost use Rattle.rep_core.specs.Chained.{last_hash, next_line, history_lines};
+    ghost use Rattle.rep_wire.specs.Made.{made_of};
+    ghost use Rattle.rep_core.specs.Chained.{last_hash, history_lines};
     ghost use Rattle.rep_core.specs.Verdict.{IsVerdict, HasWorker};
     ghost use Rattle.rep_core.specs.Answered.{recorded_after, slip_of, IsReply};
 
@@ -242,34 +244,48 @@ impl Core {
         ensures repeat { (h : List Entry) → Stands self.new h
             → IsVerdict self.new.limit h q.now (Verdict.Repeat (length h)) }
     {
-        self.append(Entry {
-            origin: q.origin,
-            seq: q.seq,
-            body: made(q, t),
-        });
+        let entry = entry_made(q, t);
+        let hash = hash_of(&entry.body, self.count() + 1, self.tip.as_ref());
+        self.append(entry, hash);
     }
 
-    // One entry more.
-    fn append(&mut self, entry: Entry)
+    /// Records a request at a stamp, where its record's line is at hand: a clocking's hash is taken out of the line, and
+    /// not computed again. It takes no memory.
+    pub fn accept_line(&mut self, q: &Request, t: Stamp, line: &[u8])
+        requires ready { IsReady self.old q.now }
+        requires asked { IsRequest q.now ⊎ IsFounding q.now }
+        requires fresh { (h : List Entry) → Stands self.old h
+            → IsVerdict self.old.limit h q.now Verdict.Fresh }
+        requires line { (h : List Entry) → Stands self.old h → line.now ≡ next_line h (made_of q.now.ask t) }
+        ensures recorded { (h : List Entry) → Stands self.old h
+            → Stands self.new (recorded_after h q.now t) }
+        ensures limit { self.new.limit ≡ self.old.limit }
+        ensures room { self.old.room ≤ self.new.room + 1 }
+        ensures repeat { (h : List Entry) → Stands self.new h
+            → IsVerdict self.new.limit h q.now (Verdict.Repeat (length h)) }
+    {
+        let entry = entry_made(q, t);
+        let hash = hash_within(&entry.body, line);
+        self.append(entry, hash);
+    }
+
+    // One entry more, with the hash that it has behind the others.
+    fn append(&mut self, entry: Entry, hash: Option<[u8; 64]>)
         requires room { 1 ≤ self.old.room }
         requires room_of { 1 ≤ room_of self.old.rooms entry.origin }
         requires number { length self.old.entries < self.old.limit }
         requires new { IsNew entry.origin entry.seq self.old.entries }
         requires text { HasText entry.body }
+        requires hash { hash ≡ hash_behind self.old.entries entry.body }
+        requires given { HasHash entry.body hash }
         ensures entries { self.new.entries ≡ self.old.entries ++ entry ∷ [] }
         ensures limit { self.new.limit ≡ self.old.limit }
         ensures room { self.old.room ≤ self.new.room + 1 }
     {
         // The prover finds the types inside of what is pushed only where the function names them.
-        let _inside: Option<EmployerId> = None;
+        let _inside: (Option<EmployerId>, Option<Body>) = (None, None);
         self.index.note(&entry, self.entries.len() as u32 + 1);
         self.entries.push_reserved(entry);
-        let count = self.entries.len();
-        let hash = hash_of(
-            &self.entries[count - 1].body,
-            count as u32,
-            self.tip.as_ref(),
-        );
         self.tip = hash.or(self.tip);
         self.hashes.push_reserved(hash);
     }
@@ -345,6 +361,17 @@ impl Core {
     }
 }
 
+// The entry that a request becomes at a stamp.
+fn entry_made(q: &Request, t: Stamp) -> Entry
+    ensures { result ≡ entry_of q.now t }
+{
+    Entry {
+        origin: q.origin,
+        seq: q.seq,
+        body: made(q, t),
+    }
+}
+
 // The hash that the record with this number has, where `tip` is that of the last clocking before: a clocking has one,
 // and no other record.
 fn hash_of(body: &Body, nsr: u32, tip: Option<&[u8; 64]>) -> Option<[u8; 64]>
@@ -358,6 +385,17 @@ fn hash_of(body: &Body, nsr: u32, tip: Option<&[u8; 64]>) -> Option<[u8; 64]>
             let payload = stem(body, nsr);
             Some(link(tip, payload.bytes()))
         }
+        Body::Employer { .. } | Body::Adjust { .. } | Body::Worker { .. } | Body::Event { .. } =>
+            None,
+    }
+}
+
+// The hash in which a clocking's line ends. No other record has one.
+fn hash_within(body: &Body, line: &[u8]) -> Option<[u8; 64]>
+    ensures { (h : List Entry) → line.now ≡ next_line h body.now → result ≡ hash_behind h body.now }
+{
+    match body {
+        Body::Clocking { .. } => line.last_chunk().copied(),
         Body::Employer { .. } | Body::Adjust { .. } | Body::Worker { .. } | Body::Event { .. } =>
             None,
     }

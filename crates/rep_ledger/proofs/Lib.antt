@@ -1,4 +1,3 @@
-pub mod HashTexts
 pub mod Nexts
 pub mod LedgerLemmas
 pub mod DiskSteps

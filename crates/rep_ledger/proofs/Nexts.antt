@@ -1,10 +1,10 @@
 -- The line that an entry has where it can stand next is one that a reader takes, with the entry's record.
-use Rattle.std.proofs.Common.{◌≡◌, ℕ, suc, ◌<◌, ◌≤◌, ◌⊎◌, inl, inr, Bool, true, false, not, List, [], ◌∷◌, ◌++◌, length, Option, Some, None, refl, sym, ap, subst, ◌∙◌, arith}
+use Rattle.std.proofs.Common.{◌≡◌, ℕ, suc, ◌<◌, ◌≤◌, ◌⊎◌, inl, inr, Bool, true, false, not, List, [], ◌∷◌, ◌++◌, length, Some, None, refl, sym, ap, subst, ◌∙◌, arith}
 use Rattle.std.specs.Prelude.{sum_by}
 use Rattle.std.specs.Str.{bytes_eq}
 use Rattle.std.proofs.lemmas.Slice.Eq.{bytes_eq-Decides}
 use Rattle.rep_fields.specs.Moment.{Moment, IsMoment}
-use Rattle.afd_records.specs.Record.{last_nsr, IsBody, IsNsr, HasText, recorded_of, payload_text}
+use Rattle.afd_records.specs.Record.{last_nsr, IsBody, recorded_of, payload_text}
 use Rattle.afd_records.specs.Line.{HasHash, IsLineOf}
 use Rattle.afd_records.specs.declared.record.Body.{Body}
 use Rattle.afd_records.specs.declared.record.Body.TheVariants as body
@@ -18,19 +18,18 @@ use Rattle.rep_wire.specs.declared.request.Ask.TheVariants.{Mark, Employer, Work
 use Rattle.rep_wire.specs.declared.request.Entry.{Entry}
 use Rattle.rep_wire.specs.declared.request.Request.{Request}
 use Rattle.rep_core.specs.Answered.{entry_of}
-use Rattle.rep_core.specs.Chained.{last_hash, next_hash, next_line}
+use Rattle.rep_core.specs.Chained.{last_hash, next_line}
 use Rattle.rep_core.specs.Hashes.{hash_behind}
-use Rattle.rep_core.specs.History.{CameBy, IsNew}
-use Rattle.rep_core.specs.Valid.{Fits, Founds}
+use Rattle.rep_core.specs.History.{CameBy}
 use Rattle.rep_core.specs.Verdict.{IsVerdict, HasWorker}
 use Rattle.rep_core.specs.declared.verdict.Verdict.TheVariants.{Fresh}
 use Rattle.rep_core.proofs.Hashes.{next_line-is}
 use Rattle.rep_journal.specs.Format.{IsLineLength}
 use Rattle.rep_ledger.specs.Asked.{Became}
-use Rattle.rep_ledger.specs.Fitting.{FitsAt, IsNextLine}
+use Rattle.rep_ledger.specs.Fitting.{FitsAt}
 use Rattle.rep_ledger.specs.Taking.{IsRecording, MayBecomeNext}
 use Rattle.rep_ledger.specs.declared.taking.Recording.{Recording}
-use Rattle.rep_ledger.proofs.HashTexts.{IsHashText-sha}
+use Rattle.afd_chain.proofs.HashText.{IsHashText-sha_text}
 
 -- an entry of a request, recorded at some stamp, is so at its own
 pub recorded_of-made : (ask : Ask) (now : Moment) → recorded_of (made_of ask now) ≡ now
@@ -101,7 +100,7 @@ HasHash-behind h (body.Adjust before after resp) = refl
 HasHash-behind h (body.Worker at op cpf name extra resp) = refl
 HasHash-behind h (body.Event at code) = refl
 HasHash-behind h (body.Clocking marked cpf recorded collector offline) =
-    IsHashText-sha (payload_text (suc (length h)) (body.Clocking marked cpf recorded collector offline) ++ last_hash h)
+    IsHashText-sha_text (payload_text (suc (length h)) (body.Clocking marked cpf recorded collector offline) ++ last_hash h)
 
 -- the line of a record behind a history is one that a reader takes
 pub IsLineOf-next : (h : List Entry) (b : Body) (line : List ℕ) → length h < last_nsr → IsBody b → line ≡ next_line h b → IsLineOf (suc (length h)) b (hash_behind h b) line

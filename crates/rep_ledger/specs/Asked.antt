@@ -1,6 +1,6 @@
 -- What was asked where a record was made: this project's own. The recorder adds the stamp at which it records, and by
 -- that stamp the record says all that was asked.
-use Rattle.std.specs.Prelude.{◌≡◌, ◌≢◌, ℕ, List, [], Option, Some, None}
+use Rattle.std.specs.Prelude.{◌≡◌, ◌≢◌, [], Option, Some, None}
 use Rattle.afd_records.specs.Record.{recorded_of}
 use Rattle.afd_records.specs.declared.record.Body.{Body}
 use Rattle.rep_wire.specs.Made.{made_of}

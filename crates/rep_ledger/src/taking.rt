@@ -52,7 +52,7 @@ pub fn take_in(core: &mut Core, origin: u16, seq: u64, line: &[u8]) -> Result<()
     if core.reserve(&next.request).is_err() {
         return Err(NotTaken::OutOfMemory);
     }
-    core.accept(&next.request, next.at);
+    core.accept_line(&next.request, next.at, line);
     Ok(())
 }
 

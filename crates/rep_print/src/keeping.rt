@@ -55,7 +55,7 @@ pub(crate) fn put_entry(core: &mut Core, journal: &mut PrintJournal, q: &Request
 {
     let frame = frame_of(core, q, now);
     journal.put(&frame);
-    core.accept(q, now);
+    core.accept_line(q, now, frame.line());
 }
 
 /// Writes an extraction over so many entries: its own line, and the AFD with this head.

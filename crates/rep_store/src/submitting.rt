@@ -146,7 +146,7 @@ fn put_entry<D: Disk>(
 {
     let frame = frame_of(core, q, now);
     device.put(&frame)?;
-    core.accept(q, now);
+    core.accept_line(q, now, frame.line());
     days.push(now.day());
     Ok(())
 }

@@ -1,7 +1,5 @@
 use Rattle.std.proofs.Common.{◌≡◌, suc, ap, sym, subst, ◌∙◌}
-use Rattle.afd_records.specs.declared.record.Body.{Body}
 use Rattle.rep_core.specs.Hashes.{hash_behind}
-use Rattle.rep_wire.specs.declared.request.Entry.{Entry}
 use Rattle.rep_ledger.specs.Asked.{Became}
 use Rattle.rep_ledger.specs.Taking.{MayBecomeNext}
 use Rattle.rep_core.specs.Chained.{next_line}
