@@ -1,4 +1,4 @@
-ghost use Rattle.std.specs.Prelude.{◌≡◌, ◌≤◌};
+ghost use Rattle.std.specs.Prelude.{◌≡◌, ◌≤◌, OnErr, IsErr};
 ghost use Rattle.std.specs.Io.{ReadsAtMost};
 ghost use Rattle.rep_io.specs.Causes.{Rose};
 ghost use Rattle.rep_cli.specs.Untold.{untold};
@@ -48,13 +48,20 @@ impl<'a, R: Files<File = File>> FileDisk<'a, R> {
         }
     }
 
-    /// Counts a fault, and is it.
-    fn fault(&mut self) -> Failed
+    /// What the system told of a call: a fault is counted.
+    fn told<T>(&mut self, done: io::Result<T>) -> Result<T, Failed>
+        ensures done { (value : T) → done ≡ Ok value → result ≡ Ok value }
+        ensures failed { OnErr done (IsErr result) }
         ensures later { self.old.faults ≤ self.new.faults }
-        ensures rose { Rose self.old.faults self.new.faults }
+        ensures rose { OnErr result (Rose self.old.faults self.new.faults) }
     {
-        self.faults = self.faults.saturating_add(1);
-        Failed
+        match done {
+            Ok(value) => Ok(value),
+            Err(_) => {
+                self.faults = self.faults.saturating_add(1);
+                Err(Failed)
+            }
+        }
     }
 }
 
@@ -198,37 +205,27 @@ impl<'a, R: Files<File = File>> Disk for FileDisk<'a, R> {
     }
 
     fn length(&mut self) -> Result<u64, Failed> {
-        match length_of(self.rt, self.path, &mut self.file) {
-            Ok(length) => Ok(length),
-            Err(_) => Err(self.fault()),
-        }
+        let done = length_of(self.rt, self.path, &mut self.file);
+        self.told(done)
     }
 
     fn read_at(&mut self, at: u64, into: &mut [u8]) -> Result<usize, Failed> {
-        match read_from(self.rt, self.path, &mut self.file, at, into) {
-            Ok(count) => Ok(count),
-            Err(_) => Err(self.fault()),
-        }
+        let done = read_from(self.rt, self.path, &mut self.file, at, into);
+        self.told(done)
     }
 
     fn write_at(&mut self, at: u64, piece: &[u8]) -> Result<(), Failed> {
-        match write_to(self.rt, self.path, &mut self.file, at, piece) {
-            Ok(()) => Ok(()),
-            Err(_) => Err(self.fault()),
-        }
+        let done = write_to(self.rt, self.path, &mut self.file, at, piece);
+        self.told(done)
     }
 
     fn cut(&mut self, length: u64) -> Result<(), Failed> {
-        match cut_to(self.rt, self.path, &mut self.file, length) {
-            Ok(()) => Ok(()),
-            Err(_) => Err(self.fault()),
-        }
+        let done = cut_to(self.rt, self.path, &mut self.file, length);
+        self.told(done)
     }
 
     fn sync(&mut self) -> Result<(), Failed> {
-        match sync_in(self.rt, self.path, &mut self.file) {
-            Ok(()) => Ok(()),
-            Err(_) => Err(self.fault()),
-        }
+        let done = sync_in(self.rt, self.path, &mut self.file);
+        self.told(done)
     }
 }

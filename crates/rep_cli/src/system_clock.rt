@@ -1,4 +1,4 @@
-ghost use Rattle.std.specs.Prelude.{None, IfSome};
+ghost use Rattle.std.specs.Prelude.{◌≡◌, ℕ, ◌+◌, ◌*◌, ◌<◌, ◌≤◌, None, Some, IfSome};
 ghost use Rattle.rep_io.specs.Streams.{IsReading};
 
 use rep_io::{FIRST_READING, Failed, LAST_READING};
@@ -18,17 +18,30 @@ impl<'a, R: std::rt::Clock> SystemClock<'a, R> {
     }
 }
 
+/// The seconds of a minute.
+const MINUTE: u64 = 60;
+
+/// The whole minutes in so many seconds, where they are in the range of a clock's readings.
+pub(crate) fn minutes_of(seconds: u64) -> Option<u32>
+    ensures in_range { IfSome result IsReading }
+    ensures value { IfSome result (λ minute. (minute * 60 ≤ seconds) × (seconds < minute * 60 + 60)) }
+    ensures only { (minute : ℕ) → IsReading minute → minute * 60 ≤ seconds → seconds < minute * 60 + 60
+        → result ≡ Some minute }
+{
+    let minute = u32::try_from(seconds / MINUTE).ok()?;
+    if minute < FIRST_READING || minute > LAST_READING {
+        return None;
+    }
+    Some(minute)
+}
+
 /// The whole minutes since 1970, where they are in the range of a clock's readings.
 fn minutes_since_1970(rt: &impl std::rt::Clock) -> Option<u32>
     ensures { IfSome result IsReading }
 {
     let now = SystemTime::now(rt).ok()?;
     let since = now.duration_since(SystemTime::UNIX_EPOCH).ok()?;
-    let minute = u32::try_from(since.as_secs() / 60).ok()?;
-    if minute < FIRST_READING || minute > LAST_READING {
-        return None;
-    }
-    Some(minute)
+    minutes_of(since.as_secs())
 }
 
 impl<'a, R: std::rt::Clock> rep_io::Clock for SystemClock<'a, R> {

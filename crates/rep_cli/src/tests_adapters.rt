@@ -1,7 +1,7 @@
 use crate::file_disk::FileDisk;
 use crate::file_source::FileSource;
 use crate::output_sink::OutputSink;
-use crate::system_clock::SystemClock;
+use crate::system_clock::{SystemClock, minutes_of};
 use rep_disk::Disk;
 use rep_io::{Clock, FIRST_READING, Failed, LAST_READING, Sink, put_all, read_whole};
 use std::fs;
@@ -137,11 +137,31 @@ fn a_disk_is_no_folder(rt: HostRuntime) -> Result<(), Fail> {
     for path in ["folder", "nowhere/journal", ""] {
         let mut disk = FileDisk::new(&rt, path);
         assert_eq!(rt; disk.length(), Err(Failed), "{path}");
-        assert_eq!(rt; disk.faults, 1, "{path}");
+        assert_eq!(rt; disk.read_at(0, &mut [0; 4]), Err(Failed), "{path}");
+        assert_eq!(rt; disk.write_at(0, b"a frame"), Err(Failed), "{path}");
+        assert_eq!(rt; disk.cut(0), Err(Failed), "{path}");
+        assert_eq!(rt; disk.sync(), Err(Failed), "{path}");
+        assert_eq!(rt; disk.faults, 5, "{path}");
     }
     let mut inside = FileDisk::new(&rt, "folder/journal");
     assert_eq!(rt; inside.length(), Ok(0), "a file in a folder");
     Ok(())
+}
+
+#[test]
+fn seconds_make_whole_minutes(rt: HostRuntime) {
+    // 2024-03-04T08:00:00 at the offset -0300 by `date`, the seconds around it, and what stands before and behind it.
+    assert_eq!(rt; minutes_of(1_709_550_000), Some(28_492_500));
+    assert_eq!(rt; minutes_of(1_709_549_999), Some(28_492_499));
+    assert_eq!(rt; minutes_of(1_709_550_059), Some(28_492_500));
+    assert_eq!(rt; minutes_of(1_709_550_060), Some(28_492_501));
+    let first = u64::from(FIRST_READING) * 60;
+    let last = u64::from(LAST_READING) * 60;
+    assert_eq!(rt; minutes_of(first - 1), None, "before the first");
+    assert_eq!(rt; minutes_of(first), Some(FIRST_READING), "the first");
+    assert_eq!(rt; minutes_of(last + 59), Some(LAST_READING), "the last");
+    assert_eq!(rt; minutes_of(last + 60), None, "behind the last");
+    assert_eq!(rt; minutes_of(u64::MAX), None, "more than there are");
 }
 
 #[test]
