@@ -28,5 +28,5 @@ for name, label in (("run", "run, from start to end of the program"), ("fdatasyn
     print(f"{label}: {statistics.median(rates[name]):.0f} records a second ({each})")
 for sync in ("fdatasync", "fsync"):
     ratio = statistics.median(a / b for a, b in zip(rates["run"], rates[sync]))
-    print(f"run against the loop with {sync}: {ratio:.2f} times, the median of {rounds} rounds of {records} records")
+    print(f"run against the loop with {sync}: {ratio:.3f} times, the median of {rounds} rounds of {records} records")
 P
