@@ -10,7 +10,8 @@ use Rattle.rep_words.specs.declared.rig.Rig.{Rig}
 use Rattle.rep_words.specs.declared.errand.Command.{Command}
 use Rattle.rep_words.specs.declared.words.Asked.{Asked}
 use Rattle.rep_words.specs.declared.words.Asked.TheVariants.{Print, Create, Run, Extract, Receipt, Drill}
-use Rattle.rep_cli.specs.Paths.{disk_path, out_paths, text_paths, word_at}
+use Rattle.rep_cli.specs.declared.access.Access.{Access}
+use Rattle.rep_cli.specs.Paths.{access_for, access_of, disk_path, out_paths, text_paths, word_at}
 
 -- Lists and options by what they are mapped to
 
@@ -118,6 +119,16 @@ disk_named words Run run = ap (λ (ws : List (List ℕ)). Some (word_at ws 2)) r
 disk_named words (Extract period) extract = ap (λ (ws : List (List ℕ)). Some (word_at ws 2)) extract.spelled
 disk_named words (Receipt nsr) receipt = ap (λ (ws : List (List ℕ)). Some (word_at ws 2)) receipt.spelled
 disk_named words Drill drill = refl
+
+-- The way in which the journal is used
+
+access_named : (asked : Asked) → option_map (λ (place : ℕ). access_for (command_of asked)) (disk_of asked) ≡ access_of asked
+access_named (Print zone) = refl
+access_named Create = refl
+access_named Run = refl
+access_named (Extract period) = refl
+access_named (Receipt nsr) = refl
+access_named Drill = refl
 
 -- The rig
 
@@ -227,3 +238,17 @@ module _ {E S K D C : Type 0} (path : S → List ℕ) (target : K → Option (Li
           → IfOk made (λ rig. (asked : Asked) (asks : Asks words asked) → option_map root rig.disk ≡ disk_path words asked asks)
       by (Err e) d = tt
       by (Ok rig) d = λ asked asks. d ∙ ap (option_map (word_at words)) (ds asked asks) ∙ disk_named words asked asks
+
+  pub uses_if : (used : D → Access) (command : Command) (disk : Option ℕ) → ((asked : Asked) → Asks words asked → command ≡ command_of asked)
+      → ((asked : Asked) → Asks words asked → disk ≡ disk_of asked)
+      → IfOk made (λ rig. option_map used rig.disk ≡ option_map (λ (place : ℕ). access_for command) disk)
+      → IfOk made (λ rig. (asked : Asked) → Asks words asked → option_map used rig.disk ≡ access_of asked)
+  uses_if used command disk cs ds d = by made d
+    where
+      by : (made : Result (Rig S K D C) E) → IfOk made (λ rig. option_map used rig.disk ≡ option_map (λ (place : ℕ). access_for command) disk)
+          → IfOk made (λ rig. (asked : Asked) → Asks words asked → option_map used rig.disk ≡ access_of asked)
+      by (Err e) d = tt
+      by (Ok rig) d = λ asked asks.
+          d ∙ ap (λ (c : Command). option_map (λ (place : ℕ). access_for c) disk) (cs asked asks)
+          ∙ ap (option_map (λ (place : ℕ). access_for (command_of asked))) (ds asked asks)
+          ∙ access_named asked

@@ -1,3 +1,4 @@
+pub mod Apart
 pub mod Notices
 pub mod Paths
 pub mod Untold

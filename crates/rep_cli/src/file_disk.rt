@@ -1,49 +1,41 @@
-ghost use Rattle.std.specs.Prelude.{◌≡◌, ◌≤◌, OnErr, IsErr};
+ghost use Rattle.std.specs.Prelude.{◌≡◌, ◌≢◌, ◌≤◌, OnErr, IsErr};
 ghost use Rattle.std.specs.Io.{ReadsAtMost};
 ghost use Rattle.rep_io.specs.Causes.{Rose};
 ghost use Rattle.rep_cli.specs.Untold.{untold};
 
+use crate::access::Access;
+use crate::opening::{OWNER_ALONE, beyond_standard};
 use rep_disk::Disk;
 use rep_io::{Failed, OutOfMemory};
-use std::fs::{File, OpenOptions};
+use std::fs::{self, File, OpenOptions};
 use std::io::{self, ErrorKind};
-use std::os::fd::AsRawFd;
 use std::os::unix::fs::{FileExt, OpenOptionsExt};
 use std::path::Path;
 use std::rt::Files;
-
-/// The permissions of a file that is made: its owner reads and writes it, and nobody else does.
-const OWNER_ALONE: u32 = 0o600;
-
-/// The last of the descriptors that stand for standard input, output and the error stream.
-const LAST_STANDARD: i32 = 2;
 
 /// The last place that a file of the system can have.
 const LAST_PLACE: u64 = i64::MAX as u64;
 
 /// A file that is read and written at places. It tells nothing of its content.
 ///
-/// It is opened at the first call, and made empty where it isn't there. From then on it is locked as long as this disk
-/// lives. Where another disk or process has the lock, the file can't be opened, and the call fails; the next one tries
-/// again.
+/// It is opened at the first call, and from then on locked as long as this disk lives: by one disk that writes, or by any
+/// number of them that only read. Where another one or another process has the lock, the file can't be opened, and the call
+/// fails; the next one tries again. Where nothing is at the path, the disk is empty until its first write.
 #[derive(Drop)]
 pub struct FileDisk<'a, R: Files<File = File>> {
-    rt: &'a R,
-    path: &'a str,
-    file: Option<File>,
+    pub(crate) file: LockedFile<'a, R>,
     pub(crate) faults: u64,
 }
 
 impl<'a, R: Files<File = File>> FileDisk<'a, R> {
-    /// The file at a path, which need not be there.
-    pub fn new(rt: &'a R, path: &'a str) -> Self
-        ensures path { result.path.now ≡ path.now }
+    /// The file at a path, which need not be there, and how it is used.
+    pub fn new(rt: &'a R, path: &'a str, access: Access) -> Self
+        ensures path { result.file.path.now ≡ path.now }
+        ensures access { result.file.access ≡ access }
         ensures sound { result.faults ≡ 0 }
     {
         FileDisk {
-            rt,
-            path,
-            file: None,
+            file: LockedFile::new(rt, path, access),
             faults: 0,
         }
     }
@@ -65,17 +57,188 @@ impl<'a, R: Files<File = File>> FileDisk<'a, R> {
     }
 }
 
-/// The file at the path, to be read and written. It is made where it isn't there.
-fn open_or_make<R: Files<File = File>>(rt: &R, path: &str) -> io::Result<File> {
-    match OpenOptions::new().read(true).write(true).open(rt, path) {
-        Err(fault) if fault.kind() == ErrorKind::NotFound => OpenOptions::new()
-            .read(true)
-            .write(true)
-            .create_new(true)
-            .mode(OWNER_ALONE)
-            .open(rt, path),
-        opened => opened,
+impl<'a, R: Files<File = File>> Disk for FileDisk<'a, R> {
+    ghost shown = { λ s. untold s.faults };
+
+    fn reserve(&mut self, _bytes: u32) -> Result<(), OutOfMemory> {
+        Ok(())
     }
+
+    fn length(&mut self) -> Result<u64, Failed> {
+        let done = self.file.length();
+        self.told(done)
+    }
+
+    fn read_at(&mut self, at: u64, into: &mut [u8]) -> Result<usize, Failed> {
+        let done = self.file.read_at(at, into);
+        self.told(done)
+    }
+
+    fn write_at(&mut self, at: u64, piece: &[u8]) -> Result<(), Failed> {
+        let done = self.file.write_at(at, piece);
+        self.told(done)
+    }
+
+    fn cut(&mut self, length: u64) -> Result<(), Failed> {
+        let done = self.file.cut(length);
+        self.told(done)
+    }
+
+    fn sync(&mut self) -> Result<(), Failed> {
+        let done = self.file.sync();
+        self.told(done)
+    }
+}
+
+/// A path, and the file there once it is opened and locked.
+#[derive(Drop)]
+pub(crate) struct LockedFile<'a, R: Files<File = File>> {
+    rt: &'a R,
+    pub(crate) path: &'a str,
+    pub(crate) access: Access,
+    /// None where it isn't opened yet, or nothing was there.
+    file: Option<File>,
+    /// Whether it was looked for and nothing was there.
+    is_missing: bool,
+}
+
+impl<'a, R: Files<File = File>> LockedFile<'a, R> {
+    fn new(rt: &'a R, path: &'a str, access: Access) -> Self
+        ensures path { result.path.now ≡ path.now }
+        ensures access { result.access ≡ access }
+    {
+        LockedFile {
+            rt,
+            path,
+            access,
+            file: None,
+            is_missing: false,
+        }
+    }
+
+    /// Opens the file where it isn't open, unless nothing was there before.
+    fn open(&mut self) -> io::Result<()> {
+        if self.file.is_none() && !self.is_missing {
+            self.file = open_locked(self.rt, self.path, self.access)?;
+            self.is_missing = self.file.is_none();
+        }
+        Ok(())
+    }
+
+    fn length(&mut self) -> io::Result<u64> {
+        self.open()?;
+        match &self.file {
+            Some(file) => Ok(file.metadata()?.len()),
+            None => Ok(0),
+        }
+    }
+
+    fn read_at(&mut self, at: u64, into: &mut [u8]) -> io::Result<usize>
+        ensures { ReadsAtMost result into.new }
+    {
+        self.open()?;
+        match &self.file {
+            Some(file) => read_front(file, at, into),
+            None => Ok(0),
+        }
+    }
+
+    fn write_at(&mut self, at: u64, piece: &[u8]) -> io::Result<()>
+        ensures { self.old.access ≡ Access.Read → IsErr result }
+    {
+        if self.access == Access::Read {
+            return Err(ErrorKind::PermissionDenied.into());
+        }
+        self.open()?;
+        if self.file.is_none() {
+            self.file = Some(make_locked(self.rt, self.path, self.access)?);
+        }
+        match &self.file {
+            Some(file) => file.write_all_at(piece, at),
+            None => unreachable!(),
+        }
+    }
+
+    fn cut(&mut self, length: u64) -> io::Result<()>
+        ensures { self.old.access ≡ Access.Read → IsErr result }
+    {
+        if self.access == Access::Read {
+            return Err(ErrorKind::PermissionDenied.into());
+        }
+        self.open()?;
+        match &self.file {
+            Some(file) => shorten(file, length),
+            None => Ok(()),
+        }
+    }
+
+    fn sync(&mut self) -> io::Result<()> {
+        self.open()?;
+        match &self.file {
+            Some(file) => file.sync_data(),
+            None => Ok(()),
+        }
+    }
+}
+
+/// Opens the file at the path, if one is there, for no more than the access wants, and locks it.
+///
+/// Where it may be written, the name of an empty file is made sure of, whoever made it: its maker may have been cut off
+/// before that.
+///
+/// # Errors
+///
+/// One of the system's, or `WouldBlock` where another open of the file has the lock, or `Unsupported` where something
+/// else than a file stands at the path. That is looked at first: opening a pipe would wait for its other end.
+fn open_locked<R: Files<File = File>>(
+    rt: &R,
+    path: &str,
+    access: Access,
+) -> io::Result<Option<File>> {
+    match fs::metadata(rt, path) {
+        Ok(found) if found.is_file() => {}
+        Ok(_) => return Err(ErrorKind::Unsupported.into()),
+        Err(fault) if fault.kind() == ErrorKind::NotFound => return Ok(None),
+        Err(fault) => return Err(fault),
+    }
+    let is_written = access != Access::Read;
+    let file = OpenOptions::new()
+        .read(true)
+        .write(is_written)
+        .open(rt, path)?;
+    let file = beyond_standard(file)?;
+    if !is_written {
+        file.try_lock_shared()?;
+        return Ok(Some(file));
+    }
+    file.try_lock()?;
+    if file.metadata()?.len() == 0 {
+        sync_folder(rt, path)?;
+    }
+    Ok(Some(file))
+}
+
+/// Makes the file, locks it, and makes sure of its name, all before anything is written to it.
+///
+/// # Errors
+///
+/// One of the system's, also where something is at the path, or `NotFound` where the access doesn't make files.
+fn make_locked<R: Files<File = File>>(rt: &R, path: &str, access: Access) -> io::Result<File>
+    ensures { access ≢ Access.Make → IsErr result }
+{
+    if access != Access::Make {
+        return Err(ErrorKind::NotFound.into());
+    }
+    let made = OpenOptions::new()
+        .read(true)
+        .write(true)
+        .create_new(true)
+        .mode(OWNER_ALONE)
+        .open(rt, path)?;
+    let file = beyond_standard(made)?;
+    file.try_lock()?;
+    sync_folder(rt, path)?;
+    Ok(file)
 }
 
 /// Makes sure of the names in the folder of the path.
@@ -85,45 +248,6 @@ fn sync_folder<R: Files<File = File>>(rt: &R, path: &str) -> io::Result<()> {
         None => "",
     };
     File::open(rt, if folder.is_empty() { "." } else { folder })?.sync_all()
-}
-
-/// Opens the file and locks it.
-///
-/// The name of an empty file is made sure of, whoever made it: its maker may have been cut off before that.
-///
-/// # Errors
-///
-/// One of the system's, or `WouldBlock` where another open of the file has the lock, or `Unsupported` where something
-/// else than a file stands at the path.
-fn open_locked<R: Files<File = File>>(rt: &R, path: &str) -> io::Result<File> {
-    let mut file = open_or_make(rt, path)?;
-    // What is meant for a standard stream that was closed must not land in the journal.
-    if file.as_raw_fd() <= LAST_STANDARD {
-        file = file.try_clone()?;
-    }
-    if !file.metadata()?.is_file() {
-        return Err(ErrorKind::Unsupported.into());
-    }
-    file.try_lock()?;
-    if file.metadata()?.len() == 0 {
-        sync_folder(rt, path)?;
-    }
-    Ok(file)
-}
-
-/// The file, which is opened where it isn't open.
-fn opened<'b, R: Files<File = File>>(
-    rt: &R,
-    path: &str,
-    file: &'b mut Option<File>,
-) -> io::Result<&'b File> {
-    if file.is_none() {
-        *file = Some(open_locked(rt, path)?);
-    }
-    match file {
-        Some(file) => Ok(file),
-        None => unreachable!(),
-    }
 }
 
 /// Fills the front of the buffer from a place on, as far as the file goes.
@@ -152,80 +276,4 @@ fn shorten(file: &File, length: u64) -> io::Result<()> {
         file.set_len(length)?;
     }
     Ok(())
-}
-
-fn length_of<R: Files<File = File>>(
-    rt: &R,
-    path: &str,
-    file: &mut Option<File>,
-) -> io::Result<u64> {
-    Ok(opened(rt, path, file)?.metadata()?.len())
-}
-
-fn read_from<R: Files<File = File>>(
-    rt: &R,
-    path: &str,
-    file: &mut Option<File>,
-    at: u64,
-    into: &mut [u8],
-) -> io::Result<usize>
-    ensures { ReadsAtMost result into.new }
-{
-    read_front(opened(rt, path, file)?, at, into)
-}
-
-fn write_to<R: Files<File = File>>(
-    rt: &R,
-    path: &str,
-    file: &mut Option<File>,
-    at: u64,
-    piece: &[u8],
-) -> io::Result<()> {
-    opened(rt, path, file)?.write_all_at(piece, at)
-}
-
-fn cut_to<R: Files<File = File>>(
-    rt: &R,
-    path: &str,
-    file: &mut Option<File>,
-    length: u64,
-) -> io::Result<()> {
-    shorten(opened(rt, path, file)?, length)
-}
-
-fn sync_in<R: Files<File = File>>(rt: &R, path: &str, file: &mut Option<File>) -> io::Result<()> {
-    opened(rt, path, file)?.sync_data()
-}
-
-impl<'a, R: Files<File = File>> Disk for FileDisk<'a, R> {
-    ghost shown = { λ s. untold s.faults };
-
-    fn reserve(&mut self, _bytes: u32) -> Result<(), OutOfMemory> {
-        Ok(())
-    }
-
-    fn length(&mut self) -> Result<u64, Failed> {
-        let done = length_of(self.rt, self.path, &mut self.file);
-        self.told(done)
-    }
-
-    fn read_at(&mut self, at: u64, into: &mut [u8]) -> Result<usize, Failed> {
-        let done = read_from(self.rt, self.path, &mut self.file, at, into);
-        self.told(done)
-    }
-
-    fn write_at(&mut self, at: u64, piece: &[u8]) -> Result<(), Failed> {
-        let done = write_to(self.rt, self.path, &mut self.file, at, piece);
-        self.told(done)
-    }
-
-    fn cut(&mut self, length: u64) -> Result<(), Failed> {
-        let done = cut_to(self.rt, self.path, &mut self.file, length);
-        self.told(done)
-    }
-
-    fn sync(&mut self) -> Result<(), Failed> {
-        let done = sync_in(self.rt, self.path, &mut self.file);
-        self.told(done)
-    }
 }

@@ -10,7 +10,7 @@ use std::rt::Files;
 #[derive(Drop)]
 pub struct FileSource<'a, R: Files> {
     rt: &'a R,
-    path: &'a str,
+    pub(crate) path: &'a str,
     file: Option<R::File>,
     pub(crate) faults: u64,
 }

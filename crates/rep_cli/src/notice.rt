@@ -37,12 +37,14 @@ drill   plays a schedule of requests, faults and crashes over a recorder in memo
 
   LANE     the file of a lane: its first line is the head L|ORIGIN|KIND, each line after it a request.
            print wants an operator's lane, of kind 00, that begins with the employer (E|..)
-  OUT      the file that the AFD is written to. An older file stays where no AFD is written
+  OUT      the file that the AFD is written to. An older file stays where no AFD is written. It can't
+           be a file that the command reads or keeps
   FROM TO  the first and the last day of the period, as 2024-03-04
   NSR      the number of the clocking's record
   ZONE     the offset of the recorder's clock from UTC: a sign and four digits, as -0300
   SITE     the file of the site, in TOML: the employer, the recorder, the offset of its clock
-  JOURNAL  the file of the journal. One program at a time works on it
+  JOURNAL  the file of the journal, which create makes. One program at a time works on it, or several
+           that only read it
   SCHEDULE the file of a schedule, one event a line: docs/formats.md has their forms
 
 A line is answered by a receipt (R|..), a refusal (N|..) or an extraction (F|.., with the AFD behind
@@ -57,7 +59,8 @@ status   0  all was done
          3  a text, the dates or the number was refused: FAULT|3|SITE|KEY, FAULT|3|LANE|1|LINE,
             FAULT|3|DATES, FAULT|3|NOSUCHNSR|NSR, FAULT|3|NOTACLOCKING|NSR or FAULT|3|SCHEDULE|LINE
          4  a file couldn't be read
-         5  a file or standard output couldn't be written
+         5  a file or standard output couldn't be written, or is one that the command reads, keeps or
+            writes besides
          6  the journal's file failed, or another program works on it
          7  the clock couldn't be read
          8  there wasn't enough memory

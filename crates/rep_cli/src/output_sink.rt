@@ -1,21 +1,31 @@
 ghost use Rattle.std.specs.Prelude.{◌≡◌, ◌<◌, ◌≤◌, None, Some, IfOk, length, option_map, string_bytes};
+ghost use Rattle.rep_cli.specs.Paths.{shown_path};
 
+use crate::opening::{OWNER_ALONE, beyond_standard};
 use rep_io::{Failed, Sink};
-use std::fs::File;
+use std::fs::{File, OpenOptions};
 use std::io::{self, Write};
+use std::os::unix::fs::OpenOptionsExt;
 use std::rt::Files;
 
+/// The path at which the system shows what standard output is.
+const STANDARD_OUTPUT: &str = "/dev/stdout";
+
 /// Standard output, or a file that is written. It tells nothing of its content.
+///
+/// A file stays as it is until the first call. That one opens it, or makes it where it isn't there, locks it, and only then
+/// empties it: where another open of it has a lock, as a journal has that is worked on, nothing of it is changed and the call
+/// fails. A device or a pipe is written as it is.
 #[derive(Drop)]
-pub struct OutputSink<'a, R: Files + Print> {
+pub struct OutputSink<'a, R: Files<File = File> + Print> {
     rt: &'a R,
     /// The path of the file; none for standard output.
     path: Option<String>,
-    file: Option<R::File>,
+    file: Option<File>,
     pub(crate) faults: u64,
 }
 
-impl<'a, R: Files + Print> OutputSink<'a, R> {
+impl<'a, R: Files<File = File> + Print> OutputSink<'a, R> {
     /// Standard output.
     pub fn standard(rt: &'a R) -> Self
         ensures path { option_map string_bytes result.path ≡ None }
@@ -28,7 +38,7 @@ impl<'a, R: Files + Print> OutputSink<'a, R> {
         }
     }
 
-    /// The file at a path. It stays as it is until the first call, which empties it, or makes it where it isn't there.
+    /// The file at a path, which need not be there.
     pub fn file(rt: &'a R, path: String) -> Self
         ensures path { option_map string_bytes result.path ≡ Some (string_bytes path) }
     {
@@ -39,13 +49,42 @@ impl<'a, R: Files + Print> OutputSink<'a, R> {
             faults: 0,
         }
     }
+
+    /// The path at which the system shows what is written.
+    pub fn shown_path(&self) -> &str
+        ensures { result.now ≡ shown_path (option_map string_bytes self.now.path) }
+    {
+        match &self.path {
+            Some(path) => path.as_str(),
+            None => STANDARD_OUTPUT,
+        }
+    }
 }
 
-/// Writes a front of the piece to standard output, or to the file at the path, which is made where it isn't open.
-fn write_to<R: Files + Print>(
+/// Opens the file at the path and empties it. It is made where it isn't there.
+///
+/// # Errors
+///
+/// One of the system's, or `WouldBlock` where another open of the file has a lock.
+fn open_emptied<R: Files<File = File>>(rt: &R, path: &str) -> io::Result<File> {
+    let opened = OpenOptions::new()
+        .write(true)
+        .create(true)
+        .mode(OWNER_ALONE)
+        .open(rt, path)?;
+    let file = beyond_standard(opened)?;
+    if file.metadata()?.is_file() {
+        file.try_lock()?;
+        file.set_len(0)?;
+    }
+    Ok(file)
+}
+
+/// Writes a front of the piece to standard output, or to the file at the path, which is opened where it isn't open.
+fn write_to<R: Files<File = File> + Print>(
     rt: &R,
     path: &Option<String>,
-    file: &mut Option<R::File>,
+    file: &mut Option<File>,
     piece: &[u8],
 ) -> io::Result<usize>
     ensures { IfOk result (λ n. n ≤ length piece.now) }
@@ -56,10 +95,10 @@ fn write_to<R: Files + Print>(
     if let Some(file) = file {
         return file.write(piece);
     }
-    let mut made = File::create(rt, path.as_str())?;
-    let count = made.write(piece)?;
-    *file = Some(made);
-    Ok(count)
+    let mut opened = open_emptied(rt, path.as_str())?;
+    let done = opened.write(piece);
+    *file = Some(opened);
+    done
 }
 
 /// Writes a front of the piece, some byte at least.
@@ -67,10 +106,10 @@ fn write_to<R: Files + Print>(
 /// # Errors
 ///
 /// One of the system's, or `WriteZero` where nothing was taken of a piece that isn't empty.
-fn write_some<R: Files + Print>(
+fn write_some<R: Files<File = File> + Print>(
     rt: &R,
     path: &Option<String>,
-    file: &mut Option<R::File>,
+    file: &mut Option<File>,
     piece: &[u8],
 ) -> io::Result<usize>
     ensures within { IfOk result (λ n. n ≤ length piece.now) }
@@ -83,7 +122,7 @@ fn write_some<R: Files + Print>(
     Ok(count)
 }
 
-impl<'a, R: Files + Print> Sink for OutputSink<'a, R> {
+impl<'a, R: Files<File = File> + Print> Sink for OutputSink<'a, R> {
     ghost written = { λ _. None };
 
     ghost faults = { λ s. s.faults };

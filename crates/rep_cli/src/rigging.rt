@@ -2,8 +2,9 @@ ghost use Rattle.std.specs.Prelude.{◌≡◌, ◌<◌, ◌++◌, [], None, Some
 ghost use Rattle.rep_words.specs.Words.{Asks, IsOnGrammar};
 ghost use Rattle.rep_words.specs.Places.{ending_of};
 ghost use Rattle.rep_words.specs.Rigged.{IsRigged};
-ghost use Rattle.rep_cli.specs.Paths.{disk_path, out_paths, text_paths, word_at};
+ghost use Rattle.rep_cli.specs.Paths.{access_for, access_of, disk_path, out_paths, text_paths, word_at};
 
+use crate::access::Access;
 use crate::file_disk::FileDisk;
 use crate::file_source::FileSource;
 use crate::output_sink::OutputSink;
@@ -40,7 +41,9 @@ pub fn rig_for<'a, R: Files<File = File> + Print + Clock>(
     ensures writes { IfOk result (λ rig. (asked : Asked) (asks : Asks (map string_bytes words.now) asked)
         → map (λ s. option_map string_bytes s.path) rig.outs.items ≡ map Some (out_paths (map string_bytes words.now) asked asks)) }
     ensures keeps { IfOk result (λ rig. (asked : Asked) (asks : Asks (map string_bytes words.now) asked)
-        → option_map (λ d. d.path.now) rig.disk ≡ disk_path (map string_bytes words.now) asked asks) }
+        → option_map (λ d. d.file.path.now) rig.disk ≡ disk_path (map string_bytes words.now) asked asks) }
+    ensures uses { IfOk result (λ rig. (asked : Asked) → Asks (map string_bytes words.now) asked
+        → option_map (λ d. d.file.access) rig.disk ≡ access_of asked) }
     ensures says { IfOk result (λ rig. option_map string_bytes rig.out.path ≡ None) }
     ensures empty { IfOk result (λ rig. (IsOnGrammar (map string_bytes words.now) → ⊥)
         → (rig.texts.items ≡ []) × (rig.outs.items ≡ []) × (rig.disk ≡ None) × (rig.clock ≡ None)) }
@@ -83,15 +86,17 @@ fn rig_of<'a, R: Files<File = File> + Print + Clock>(
         ≡ map (word_at (map string_bytes words.now)) errand.now.texts.items) }
     ensures outs { IfOk result (λ rig. map (λ s. option_map string_bytes s.path) rig.outs.items
         ≡ map (λ place. Some (word_at (map string_bytes words.now) place ++ ending_of errand.now.command)) errand.now.outs.items) }
-    ensures disk { IfOk result (λ rig. option_map (λ d. d.path.now) rig.disk
+    ensures disk { IfOk result (λ rig. option_map (λ d. d.file.path.now) rig.disk
         ≡ option_map (word_at (map string_bytes words.now)) errand.now.disk) }
+    ensures access { IfOk result (λ rig. option_map (λ d. d.file.access) rig.disk
+        ≡ option_map (λ _. access_for errand.now.command) errand.now.disk) }
     ensures out { IfOk result (λ rig. option_map string_bytes rig.out.path ≡ None) }
     ensures clock { IfOk result (λ rig. is_some rig.clock ≡ errand.now.clock) }
 {
     Ok(Rig {
         texts: sources(alloc, rt, words, &errand.texts)?,
         outs: files(alloc, rt, words, &errand.outs, errand.command.ending())?,
-        disk: disk_of(rt, words, errand.disk),
+        disk: disk_of(rt, words, errand.disk, Access::of(errand.command)),
         clock: clock_of(rt, errand.clock),
         out: OutputSink::standard(rt),
     })
@@ -116,7 +121,7 @@ fn sources<'a, R: Files>(
 }
 
 /// The files at the paths that are made of the words at these places and this ending, to be written.
-fn files<'a, R: Files + Print>(
+fn files<'a, R: Files<File = File> + Print>(
     alloc: Global,
     rt: &'a R,
     words: &[String],
@@ -144,17 +149,19 @@ fn joined(alloc: Global, word: &str, ending: &str) -> Result<String, OutOfMemory
     Ok(path)
 }
 
-/// The journal at the path that stands at a place of the words.
+/// The journal at the path that stands at a place of the words, and how it is used.
 fn disk_of<'a, R: Files<File = File>>(
     rt: &'a R,
     words: &'a [String],
     place: Option<u32>,
+    access: Access,
 ) -> Option<FileDisk<'a, R>>
     requires named { IfSome place (λ place. place < length words.now) }
-    ensures path { option_map (λ d. d.path.now) result ≡ option_map (word_at (map string_bytes words.now)) place }
+    ensures path { option_map (λ d. d.file.path.now) result ≡ option_map (word_at (map string_bytes words.now)) place }
+    ensures access { option_map (λ d. d.file.access) result ≡ option_map (λ _. access) place }
 {
     match place {
-        Some(place) => Some(FileDisk::new(rt, words[place as usize].as_str())),
+        Some(place) => Some(FileDisk::new(rt, words[place as usize].as_str(), access)),
         None => None,
     }
 }

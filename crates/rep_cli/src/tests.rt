@@ -1,7 +1,152 @@
-use crate::notice::{DONE, HELP, Notice, SINK_FAULT, VERSION, asked_notice, print_text};
-use rep_io::MemSink;
+use crate::access::Access;
+use crate::apart::{Clash, Place, clash_in};
+use crate::file_disk::FileDisk;
+use crate::file_source::FileSource;
+use crate::output_sink::OutputSink;
+use crate::rigging::rig_for;
+use rep_disk::Disk;
+use rep_io::{Failed, Sink, put_all, read_whole};
 use std::alloc::{AllocError, Global};
+use std::fs;
+use std::os::unix::fs::{MetadataExt, PermissionsExt, symlink};
 use std::test::Fail;
+
+#[test]
+fn a_source_gives_the_bytes_of_its_file(rt: HostRuntime) -> Result<(), Fail> {
+    let alloc = rt.alloc();
+    fs::write(&rt, "lane", "L|1|01\n")?;
+    let mut source = FileSource::new(&rt, "lane");
+    let read = read_whole(alloc, &mut source).map_err(|_| "it can be read")?;
+    assert_eq!(rt; read.as_slice(), b"L|1|01\n".as_slice());
+    let mut missing = FileSource::new(&rt, "nothing");
+    assert!(rt; read_whole(alloc, &mut missing).is_err());
+    assert_eq!(rt; missing.faults, 1);
+    Ok(())
+}
+
+#[test]
+fn an_output_is_emptied_at_its_first_call_and_never_while_it_is_locked(
+    rt: HostRuntime,
+) -> Result<(), Fail> {
+    let alloc = rt.alloc();
+    fs::write(&rt, "afd", "an older and longer text")?;
+    let mut sink = OutputSink::file(&rt, String::from_str(alloc, "afd")?);
+    assert_eq!(rt; fs::metadata(&rt, "afd")?.len(), 24, "no call yet");
+    assert!(rt; put_all(&mut sink, b"first ").is_ok());
+    let mut second = OutputSink::file(&rt, String::from_str(alloc, "afd")?);
+    assert_eq!(rt; second.write(b"other"), Err(Failed), "the first has it");
+    assert_eq!(rt; second.faults, 1);
+    assert!(rt; put_all(&mut sink, b"and last").is_ok());
+    assert_eq!(rt;
+        fs::read(&rt, "afd")?.as_slice(),
+        b"first and last".as_slice()
+    );
+    let mut made = OutputSink::file(&rt, String::from_str(alloc, "new")?);
+    assert!(rt; put_all(&mut made, b"line").is_ok());
+    assert_eq!(rt; fs::metadata(&rt, "new")?.mode() & 0o777, 0o600);
+    Ok(())
+}
+
+#[test]
+fn a_disk_is_made_by_its_first_write_and_keeps_it(rt: HostRuntime) -> Result<(), Fail> {
+    let mut disk = FileDisk::new(&rt, "kept", Access::Make);
+    assert_eq!(rt;
+        (disk.sync(), disk.length()),
+        (Ok(()), Ok(0)),
+        "nothing is there"
+    );
+    assert_eq!(rt; disk.cut(0), Ok(()));
+    assert!(rt; !fs::exists(&rt, "kept")?, "no write, no file");
+    assert_eq!(rt; disk.write_at(0, b"a frame and a gate"), Ok(()));
+    assert_eq!(rt;
+        disk.write_at(2, b"FRAME"),
+        Ok(()),
+        "over what stands there"
+    );
+    assert_eq!(rt; disk.write_at(18, b", and more"), Ok(()), "behind it");
+    assert_eq!(rt; disk.sync(), Ok(()));
+    assert_eq!(rt; fs::metadata(&rt, "kept")?.mode() & 0o777, 0o600);
+    assert_eq!(rt;
+        fs::read(&rt, "kept")?.as_slice(),
+        b"a FRAME and a gate, and more".as_slice()
+    );
+    let mut into = [0; 16];
+    assert_eq!(rt; disk.read_at(24, &mut into), Ok(4), "past the end");
+    assert_eq!(rt; &into[..4], b"more".as_slice());
+    assert_eq!(rt;
+        disk.read_at(1 << 63, &mut into),
+        Ok(0),
+        "where no file has a place"
+    );
+    assert_eq!(rt;
+        (disk.cut(18), disk.cut(20), disk.length()),
+        (Ok(()), Ok(()), Ok(18))
+    );
+    assert_eq!(rt; disk.faults, 0);
+    Ok(())
+}
+
+#[test]
+fn a_disk_asks_for_no_more_than_its_access(rt: HostRuntime) -> Result<(), Fail> {
+    for access in [Access::Read, Access::Write] {
+        let mut missing = FileDisk::new(&rt, "missing", access);
+        assert_eq!(rt; (missing.sync(), missing.length()), (Ok(()), Ok(0)));
+        assert_eq!(rt; missing.write_at(0, b"a frame"), Err(Failed));
+        assert_eq!(rt; missing.faults, 1);
+        assert!(rt; !fs::exists(&rt, "missing")?, "nothing is made");
+    }
+    fs::write(&rt, "kept", "bytes")?;
+    fs::set_permissions(&rt, "kept", fs::Permissions::from_mode(0o440))?;
+    let mut first = FileDisk::new(&rt, "kept", Access::Read);
+    let mut second = FileDisk::new(&rt, "kept", Access::Read);
+    assert_eq!(rt; (first.sync(), first.length()), (Ok(()), Ok(5)));
+    assert_eq!(rt; second.length(), Ok(5), "both may read");
+    assert_eq!(rt; first.write_at(0, b"B"), Err(Failed));
+    assert_eq!(rt; first.cut(1), Err(Failed));
+    assert_eq!(rt; first.faults, 2);
+    let mut writer = FileDisk::new(&rt, "kept", Access::Write);
+    assert_eq!(rt; writer.length(), Err(Failed), "they have the lock");
+    assert_eq!(rt; fs::read(&rt, "kept")?.as_slice(), b"bytes".as_slice());
+    assert_eq!(rt; fs::metadata(&rt, "kept")?.mode() & 0o777, 0o440);
+    Ok(())
+}
+
+#[test]
+fn a_folder_fails_each_call_of_a_disk(rt: HostRuntime) -> Result<(), Fail> {
+    fs::create_dir(&rt, "folder")?;
+    let mut disk = FileDisk::new(&rt, "folder", Access::Make);
+    assert_eq!(rt; disk.length(), Err(Failed));
+    assert_eq!(rt; disk.read_at(0, &mut [0; 4]), Err(Failed));
+    assert_eq!(rt; disk.write_at(0, b"a frame"), Err(Failed));
+    assert_eq!(rt; disk.cut(0), Err(Failed));
+    assert_eq!(rt; disk.sync(), Err(Failed));
+    assert_eq!(rt; disk.faults, 5);
+    Ok(())
+}
+
+#[test]
+fn a_file_is_the_same_by_whatever_path(rt: HostRuntime) -> Result<(), Fail> {
+    fs::write(&rt, "journal", "bytes")?;
+    fs::write(&rt, "other", "bytes")?;
+    symlink(&rt, "journal", "linked")?;
+    fs::hard_link(&rt, "journal", "twin")?;
+    let rows: &[(&str, &str, bool)] = &[
+        ("journal", "journal", true),
+        ("journal", "./journal", true),
+        ("journal", "linked", true),
+        ("linked", "twin", true),
+        ("journal", "other", false),
+        ("journal", "nothing", false),
+        ("nothing", "nothing", true),
+        ("nothing", "nowhere", false),
+        ("/dev/null", "/dev/null", false),
+    ];
+    for (path, other, is_same) in rows {
+        let met = Place::at(&rt, *path).is_same(&Place::at(&rt, *other));
+        assert_eq!(rt; met, *is_same, "{path} and {other}");
+    }
+    Ok(())
+}
 
 fn words_of(alloc: Global, words: &[&str]) -> Result<Vec<String>, AllocError> {
     let mut all = Vec::new(alloc);
@@ -12,34 +157,69 @@ fn words_of(alloc: Global, words: &[&str]) -> Result<Vec<String>, AllocError> {
 }
 
 #[test]
-fn a_notice_is_asked_for_by_its_only_word(rt: HostRuntime) -> Result<(), Fail> {
+fn an_output_that_the_command_reads_or_keeps_is_seen(rt: HostRuntime) -> Result<(), Fail> {
     let alloc = rt.alloc();
-    let rows: &[(&[&str], Option<Notice>, &str)] = &[
-        (&["--help"], Some(Notice::Help), "help"),
-        (&["--version"], Some(Notice::Version), "version"),
-        (&[], None, "no word"),
-        (&["--helps"], None, "another word"),
-        (&["--help", "--version"], None, "two words"),
-        (&["print", "--help"], None, "a word behind a command"),
-    ];
-    for (words, notice, message) in rows {
-        let words = words_of(alloc, words)?;
-        assert_eq!(rt; asked_notice(&words), *notice, "{message}");
+    for path in ["site", "journal", "lane", "lane.out"] {
+        fs::write(&rt, path, path)?;
     }
-    Ok(())
-}
-
-#[test]
-fn a_notice_is_printed_whole_or_ends_with_the_status_of_a_sink_fault(
-    rt: HostRuntime,
-) -> Result<(), Fail> {
-    let alloc = rt.alloc();
-    for (notice, text) in [(Notice::Help, HELP), (Notice::Version, VERSION)] {
-        let mut sound = MemSink::new(alloc, 4096, Vec::new(alloc))?;
-        assert_eq!(rt; print_text(&mut sound, notice.text()), DONE);
-        assert_eq!(rt; sound.bytes(), text.as_bytes());
-        let mut failing = MemSink::new(alloc, 4096, vec![in alloc; 0]?)?;
-        assert_eq!(rt; print_text(&mut failing, notice.text()), SINK_FAULT);
+    symlink(&rt, "journal", "linked")?;
+    let rows: &[(&[&str], Option<Clash>)] = &[
+        (
+            &[
+                "extract",
+                "site",
+                "journal",
+                "2024-01-01",
+                "2024-12-31",
+                "journal",
+            ],
+            Some(Clash::File),
+        ),
+        (
+            &[
+                "extract",
+                "site",
+                "journal",
+                "2024-01-01",
+                "2024-12-31",
+                "linked",
+            ],
+            Some(Clash::File),
+        ),
+        (
+            &[
+                "extract",
+                "site",
+                "linked",
+                "2024-01-01",
+                "2024-12-31",
+                "./site",
+            ],
+            Some(Clash::File),
+        ),
+        (
+            &[
+                "extract",
+                "site",
+                "journal",
+                "2024-01-01",
+                "2024-12-31",
+                "afd",
+            ],
+            None,
+        ),
+        (&["run", "site", "lane.out", "lane"], Some(Clash::File)),
+        (&["run", "site", "journal", "lane"], None),
+        (&["print", "lane", "lane", "-0300"], Some(Clash::File)),
+        (&["print", "lane", "/dev/null", "-0300"], None),
+        (&["receipt", "site", "journal", "4"], None),
+        (&["receipt", "journal"], None),
+    ];
+    for (words, clash) in rows {
+        let words = words_of(alloc, words)?;
+        let rig = rig_for(alloc, &rt, &words).map_err(|_| "there is memory")?;
+        let met = clash_in(alloc, &rt, &rig).map_err(|_| "there is memory")?;
+        assert_eq!(rt; met, *clash, "{words:?}");
     }
     Ok(())
 }
