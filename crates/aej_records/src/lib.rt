@@ -12,16 +12,12 @@
 #![tactic(auto)]
 
 mod error;
-#[cfg(test)]
-mod field_tests;
 mod fields;
 mod held_line;
 mod kind;
 mod laws;
 mod line;
 mod reading;
-#[cfg(test)]
-mod tests;
 mod times;
 mod value;
 mod writing;

@@ -10,7 +10,5 @@
 #![tactic(auto)]
 
 mod chain;
-#[cfg(test)]
-mod tests;
 
 pub use chain::{PAYLOAD_LEN, link, verify};

@@ -12,8 +12,6 @@ mod laws;
 mod output;
 mod periods;
 mod tally;
-#[cfg(test)]
-mod tests;
 mod writing;
 
 pub use error::WriteFail;

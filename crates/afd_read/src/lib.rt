@@ -16,8 +16,6 @@ mod filling;
 mod index;
 mod line_end;
 mod reading;
-#[cfg(test)]
-mod tests;
 
 pub use afd::Afd;
 pub use fault::AfdFault;

@@ -21,14 +21,10 @@ mod header;
 mod header_reading;
 mod lenient;
 mod lenient_laws;
-#[cfg(test)]
-mod lenient_tests;
 mod line;
 mod loose_fields;
 mod reading;
 mod record;
-#[cfg(test)]
-mod tests;
 mod trailer;
 mod trailer_reading;
 mod writing;

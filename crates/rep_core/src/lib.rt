@@ -27,8 +27,6 @@ mod recorder;
 mod registration;
 mod row;
 mod search;
-#[cfg(test)]
-mod tests;
 mod verdict;
 
 pub use laws::{

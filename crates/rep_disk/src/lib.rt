@@ -15,6 +15,3 @@ pub use disk::Disk;
 pub use fuse_disk::FuseDisk;
 pub use image::Image;
 pub use mem_disk::{Fails, MemDisk};
-
-#[cfg(test)]
-mod tests;

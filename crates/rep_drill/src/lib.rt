@@ -7,8 +7,6 @@ mod ending;
 mod playing;
 mod saying;
 mod schedule;
-#[cfg(test)]
-mod tests;
 
 pub use ending::DrillEnding;
 pub use playing::{DrillDone, SAMPLE_SITE, drill};

@@ -6,14 +6,10 @@
 mod calendar;
 mod check;
 mod cpf;
-#[cfg(test)]
-mod date_tests;
 mod day;
 mod digits;
 mod employer;
 mod field_laws;
-#[cfg(test)]
-mod field_tests;
 mod latin;
 mod laws;
 mod number;

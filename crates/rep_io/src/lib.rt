@@ -15,8 +15,6 @@ mod next;
 mod piece;
 mod sink;
 mod source;
-#[cfg(test)]
-mod tests;
 mod transfer;
 mod window;
 

@@ -22,6 +22,3 @@ pub use frame::Frame;
 pub use journal::Journal;
 pub use laws::{contents_are_of_one_kind, contents_tell_the_frames};
 pub use vacant::Vacant;
-
-#[cfg(test)]
-mod tests;

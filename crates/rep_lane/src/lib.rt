@@ -20,8 +20,6 @@ mod head;
 mod lane;
 mod laws;
 mod reading;
-#[cfg(test)]
-mod tests;
 
 pub use answering::{Kind, answer_line, refuse_long_line};
 pub use desk::{Desk, DeskFail};

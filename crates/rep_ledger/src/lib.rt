@@ -9,8 +9,6 @@ mod framing;
 mod laws;
 mod replaying;
 mod taking;
-#[cfg(test)]
-mod tests;
 
 pub use asked::{asked_of, founding_of};
 pub use framing::frame_of;

@@ -11,15 +11,5 @@ mod journal;
 mod keeping;
 mod lane;
 mod laws;
-#[cfg(test)]
-mod tests;
-#[cfg(test)]
-mod tests_extractions;
-#[cfg(test)]
-mod tests_faults;
-#[cfg(test)]
-mod tests_lanes;
-#[cfg(test)]
-mod tests_verdicts;
 
 pub use command::{PrintDone, print};

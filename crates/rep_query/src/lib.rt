@@ -10,8 +10,6 @@ mod no_clock;
 mod opening;
 mod receipts;
 mod telling;
-#[cfg(test)]
-mod tests;
 mod writing;
 
 pub use extracting::{ExtractDone, extract, refuse_dates};

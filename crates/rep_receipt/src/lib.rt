@@ -7,7 +7,5 @@
 
 mod receipts;
 mod rows;
-#[cfg(test)]
-mod tests;
 
 pub use receipts::{ReceiptFault, receipt};

@@ -5,8 +5,6 @@
 mod ending;
 mod lines;
 mod saying;
-#[cfg(test)]
-mod tests;
 
 pub use ending::Ending;
 pub use lines::{

@@ -9,8 +9,6 @@ mod running;
 mod serving;
 mod settings;
 mod stopping;
-#[cfg(test)]
-mod tests;
 mod texts;
 
 pub use creating::{CreateDone, create};

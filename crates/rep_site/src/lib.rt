@@ -7,8 +7,6 @@ mod key;
 mod laws;
 mod reading;
 mod site;
-#[cfg(test)]
-mod tests;
 
 pub use fault::SiteFault;
 pub use key::SiteKey;

@@ -17,8 +17,6 @@ mod laws;
 mod reopening;
 mod store;
 mod submitting;
-#[cfg(test)]
-mod tests;
 
 pub use error::{ExtractFail, NoStore, SlipFail, Stop, StoreWhy};
 pub use extracting::Lead;

@@ -3,20 +3,12 @@
 #![tactic(auto)]
 
 mod creating;
-#[cfg(test)]
-mod drill_tests;
 mod drilling;
 mod extracting;
 mod giving;
-#[cfg(test)]
-mod journal_tests;
 mod printing;
 mod program;
-#[cfg(test)]
-mod query_tests;
 mod running;
-#[cfg(test)]
-mod tests;
 mod wrong_words;
 
 pub use program::top;

@@ -71,6 +71,3 @@ pub use held::{Held, Job};
 pub use note::{Note, What};
 pub use pass::Pass;
 pub use turn::{Closed, NoTurn, Turn};
-
-#[cfg(test)]
-mod tests;

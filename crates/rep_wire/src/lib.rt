@@ -13,8 +13,6 @@ mod making;
 mod reading;
 mod reply;
 mod request;
-#[cfg(test)]
-mod tests;
 mod value;
 
 pub use answering::{extract_line, reply_line};

@@ -5,8 +5,6 @@
 mod errand;
 mod period;
 mod rig;
-#[cfg(test)]
-mod tests;
 mod words;
 
 pub use errand::{Command, Errand, WordsFault, plan_words};

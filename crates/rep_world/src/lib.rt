@@ -12,8 +12,6 @@ mod naming;
 mod recorder;
 mod standing;
 mod steps;
-#[cfg(test)]
-mod tests;
 mod world;
 
 pub use event::{Event, Seen, WorldStop};

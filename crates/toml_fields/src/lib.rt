@@ -5,8 +5,6 @@
 mod fields;
 mod latin;
 mod table;
-#[cfg(test)]
-mod tests;
 
 pub use fields::{
     cpf_at, id_at, number_at, number_or, offset_at, some_text_at, text_at, text_or_empty,

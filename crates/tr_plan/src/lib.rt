@@ -13,12 +13,8 @@ mod link;
 mod plan;
 mod program;
 mod rows;
-#[cfg(test)]
-mod rule_tests;
 mod schedule;
 mod table;
-#[cfg(test)]
-mod tests;
 
 pub use absence::Absence;
 pub use disregard::Disregard;
