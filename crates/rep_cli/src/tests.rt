@@ -11,14 +11,16 @@ use std::fs;
 use std::os::unix::fs::{MetadataExt, PermissionsExt, symlink};
 use std::test::Fail;
 
+// The tests share a folder: each has names of files of its own.
+
 #[test]
 fn a_source_gives_the_bytes_of_its_file(rt: HostRuntime) -> Result<(), Fail> {
     let alloc = rt.alloc();
-    fs::write(&rt, "lane", "L|1|01\n")?;
-    let mut source = FileSource::new(&rt, "lane");
+    fs::write(&rt, "source.lane", "L|1|01\n")?;
+    let mut source = FileSource::new(&rt, "source.lane");
     let read = read_whole(alloc, &mut source).map_err(|_| "it can be read")?;
     assert_eq!(rt; read.as_slice(), b"L|1|01\n".as_slice());
-    let mut missing = FileSource::new(&rt, "nothing");
+    let mut missing = FileSource::new(&rt, "source.nothing");
     assert!(rt; read_whole(alloc, &mut missing).is_err());
     assert_eq!(rt; missing.faults, 1);
     Ok(())
@@ -29,34 +31,34 @@ fn an_output_is_emptied_at_its_first_call_and_never_while_it_is_locked(
     rt: HostRuntime,
 ) -> Result<(), Fail> {
     let alloc = rt.alloc();
-    fs::write(&rt, "afd", "an older and longer text")?;
-    let mut sink = OutputSink::file(&rt, String::from_str(alloc, "afd")?);
-    assert_eq!(rt; fs::metadata(&rt, "afd")?.len(), 24, "no call yet");
+    fs::write(&rt, "older.afd", "an older and longer text")?;
+    let mut sink = OutputSink::file(&rt, String::from_str(alloc, "older.afd")?);
+    assert_eq!(rt; fs::metadata(&rt, "older.afd")?.len(), 24, "no call yet");
     assert!(rt; put_all(&mut sink, b"first ").is_ok());
-    let mut second = OutputSink::file(&rt, String::from_str(alloc, "afd")?);
+    let mut second = OutputSink::file(&rt, String::from_str(alloc, "older.afd")?);
     assert_eq!(rt; second.write(b"other"), Err(Failed), "the first has it");
     assert_eq!(rt; second.faults, 1);
     assert!(rt; put_all(&mut sink, b"and last").is_ok());
     assert_eq!(rt;
-        fs::read(&rt, "afd")?.as_slice(),
+        fs::read(&rt, "older.afd")?.as_slice(),
         b"first and last".as_slice()
     );
-    let mut made = OutputSink::file(&rt, String::from_str(alloc, "new")?);
+    let mut made = OutputSink::file(&rt, String::from_str(alloc, "made.afd")?);
     assert!(rt; put_all(&mut made, b"line").is_ok());
-    assert_eq!(rt; fs::metadata(&rt, "new")?.mode() & 0o777, 0o600);
+    assert_eq!(rt; fs::metadata(&rt, "made.afd")?.mode() & 0o777, 0o600);
     Ok(())
 }
 
 #[test]
 fn a_disk_is_made_by_its_first_write_and_keeps_it(rt: HostRuntime) -> Result<(), Fail> {
-    let mut disk = FileDisk::new(&rt, "kept", Access::Make);
+    let mut disk = FileDisk::new(&rt, "made.journal", Access::Make);
     assert_eq!(rt;
         (disk.sync(), disk.length()),
         (Ok(()), Ok(0)),
         "nothing is there"
     );
     assert_eq!(rt; disk.cut(0), Ok(()));
-    assert!(rt; !fs::exists(&rt, "kept")?, "no write, no file");
+    assert!(rt; !fs::exists(&rt, "made.journal")?, "no write, no file");
     assert_eq!(rt; disk.write_at(0, b"a frame and a gate"), Ok(()));
     assert_eq!(rt;
         disk.write_at(2, b"FRAME"),
@@ -65,9 +67,9 @@ fn a_disk_is_made_by_its_first_write_and_keeps_it(rt: HostRuntime) -> Result<(),
     );
     assert_eq!(rt; disk.write_at(18, b", and more"), Ok(()), "behind it");
     assert_eq!(rt; disk.sync(), Ok(()));
-    assert_eq!(rt; fs::metadata(&rt, "kept")?.mode() & 0o777, 0o600);
+    assert_eq!(rt; fs::metadata(&rt, "made.journal")?.mode() & 0o777, 0o600);
     assert_eq!(rt;
-        fs::read(&rt, "kept")?.as_slice(),
+        fs::read(&rt, "made.journal")?.as_slice(),
         b"a FRAME and a gate, and more".as_slice()
     );
     let mut into = [0; 16];
@@ -89,25 +91,28 @@ fn a_disk_is_made_by_its_first_write_and_keeps_it(rt: HostRuntime) -> Result<(),
 #[test]
 fn a_disk_asks_for_no_more_than_its_access(rt: HostRuntime) -> Result<(), Fail> {
     for access in [Access::Read, Access::Write] {
-        let mut missing = FileDisk::new(&rt, "missing", access);
+        let mut missing = FileDisk::new(&rt, "missing.journal", access);
         assert_eq!(rt; (missing.sync(), missing.length()), (Ok(()), Ok(0)));
         assert_eq!(rt; missing.write_at(0, b"a frame"), Err(Failed));
         assert_eq!(rt; missing.faults, 1);
-        assert!(rt; !fs::exists(&rt, "missing")?, "nothing is made");
+        assert!(rt; !fs::exists(&rt, "missing.journal")?, "nothing is made");
     }
-    fs::write(&rt, "kept", "bytes")?;
-    fs::set_permissions(&rt, "kept", fs::Permissions::from_mode(0o440))?;
-    let mut first = FileDisk::new(&rt, "kept", Access::Read);
-    let mut second = FileDisk::new(&rt, "kept", Access::Read);
+    fs::write(&rt, "read.journal", "bytes")?;
+    fs::set_permissions(&rt, "read.journal", fs::Permissions::from_mode(0o440))?;
+    let mut first = FileDisk::new(&rt, "read.journal", Access::Read);
+    let mut second = FileDisk::new(&rt, "read.journal", Access::Read);
     assert_eq!(rt; (first.sync(), first.length()), (Ok(()), Ok(5)));
     assert_eq!(rt; second.length(), Ok(5), "both may read");
     assert_eq!(rt; first.write_at(0, b"B"), Err(Failed));
     assert_eq!(rt; first.cut(1), Err(Failed));
     assert_eq!(rt; first.faults, 2);
-    let mut writer = FileDisk::new(&rt, "kept", Access::Write);
+    let mut writer = FileDisk::new(&rt, "read.journal", Access::Write);
     assert_eq!(rt; writer.length(), Err(Failed), "they have the lock");
-    assert_eq!(rt; fs::read(&rt, "kept")?.as_slice(), b"bytes".as_slice());
-    assert_eq!(rt; fs::metadata(&rt, "kept")?.mode() & 0o777, 0o440);
+    assert_eq!(rt;
+        fs::read(&rt, "read.journal")?.as_slice(),
+        b"bytes".as_slice()
+    );
+    assert_eq!(rt; fs::metadata(&rt, "read.journal")?.mode() & 0o777, 0o440);
     Ok(())
 }
 
@@ -126,19 +131,19 @@ fn a_folder_fails_each_call_of_a_disk(rt: HostRuntime) -> Result<(), Fail> {
 
 #[test]
 fn a_file_is_the_same_by_whatever_path(rt: HostRuntime) -> Result<(), Fail> {
-    fs::write(&rt, "journal", "bytes")?;
-    fs::write(&rt, "other", "bytes")?;
-    symlink(&rt, "journal", "linked")?;
-    fs::hard_link(&rt, "journal", "twin")?;
+    fs::write(&rt, "path.journal", "bytes")?;
+    fs::write(&rt, "path.other", "bytes")?;
+    symlink(&rt, "path.journal", "path.linked")?;
+    fs::hard_link(&rt, "path.journal", "path.twin")?;
     let rows: &[(&str, &str, bool)] = &[
-        ("journal", "journal", true),
-        ("journal", "./journal", true),
-        ("journal", "linked", true),
-        ("linked", "twin", true),
-        ("journal", "other", false),
-        ("journal", "nothing", false),
-        ("nothing", "nothing", true),
-        ("nothing", "nowhere", false),
+        ("path.journal", "path.journal", true),
+        ("path.journal", "./path.journal", true),
+        ("path.journal", "path.linked", true),
+        ("path.linked", "path.twin", true),
+        ("path.journal", "path.other", false),
+        ("path.journal", "path.nothing", false),
+        ("path.nothing", "path.nothing", true),
+        ("path.nothing", "path.nowhere", false),
         ("/dev/null", "/dev/null", false),
     ];
     for (path, other, is_same) in rows {
