@@ -8,7 +8,7 @@ import pathlib
 crate = pathlib.Path(__file__).parent.parent / "crates/reader_rows"
 for path in (crate / "args").read_text().split():
     group, rows = None, 0
-    for line in (crate / path).read_bytes().split(b"\n") + [b"end"]:
+    for line in (crate / "data" / path).read_bytes().split(b"\n") + [b"end"]:
         text = line.lstrip(b" ")
         if not text or text.startswith(b"#"):
             continue
