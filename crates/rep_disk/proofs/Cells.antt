@@ -1,5 +1,5 @@
 -- Which bytes fit the places of an image, and what a write and a cut make of that.
-use Rattle.std.proofs.Common.{◌≡◌, ℕ, zero, suc, ◌+◌, ◌<◌, ◌≤◌, min, max, true, inl, inr, List, [], ◌∷◌, ◌++◌, length, take, drop, map, refl, sym, ap, ◌∙◌, subst, arith, length-append, length-take, length-drop}
+use Rattle.std.proofs.Common.{◌≡◌, ℕ, zero, suc, ◌+◌, ◌<◌, ◌≤◌, min, max, true, inl, inr, get_or, List, [], ◌∷◌, ◌++◌, length, take, drop, map, refl, sym, ap, ◌∙◌, subst, arith, length-append, length-take, length-drop}
 use Rattle.std.proofs.lemmas.List.{length-map, drop-drop, drop_all}
 use Rattle.std.proofs.lemmas.Bool.{cases_lt}
 use Rattle.rep_disk.specs.Disk.{Torn, CutOpen}
@@ -177,6 +177,47 @@ torn_write at piece cells image le fits =
       },
     )
 
+-- the other way round: each torn image fits after the write
+pended_short : (piece image : List ℕ) (cells : List Cell) → length image ≤ length piece → FitsCells (pended piece ++ cells) image
+pended_short piece [] cells le = tt
+pended_short [] (byte ∷ image) cells le = absurd (omega arith)
+pended_short (p ∷ piece) (byte ∷ image) cells le = ((λ h. absurd (cc)), pended_short piece image cells (omega arith))
+
+fits_torn_piece : (piece : List ℕ) (cells : List Cell) (was image : List ℕ) → FitsCells cells was → drop (length piece) image ≡ drop (length piece) was → length image ≤ max (length was) (length piece)
+    → FitsCells (pended piece ++ drop (length piece) cells) image
+fits_torn_piece [] cells was image fits behind le = subst (λ (l : List ℕ). FitsCells cells l) (sym behind) fits
+fits_torn_piece (p ∷ piece) cells was [] fits behind le = tt
+fits_torn_piece (p ∷ piece) cells [] (byte ∷ image) fits behind le = pended_short (p ∷ piece) (byte ∷ image) (drop (suc (length piece)) cells) (omega arith)
+fits_torn_piece (p ∷ piece) [] (w ∷ was) (byte ∷ image) fits behind le = absurd fits
+fits_torn_piece (p ∷ piece) (cell ∷ cells) (w ∷ was) (byte ∷ image) fits behind le = ((λ h. absurd (cc)), fits_torn_piece piece cells was image fits.1 behind (omega arith))
+
+fits_torn_by_parts : (at : ℕ) (piece : List ℕ) (cells : List Cell) (was image : List ℕ) → at ≤ length cells → FitsCells cells was → IsTorn at (length piece) was image
+    → FitsCells (take at cells ++ (pended piece ++ drop (length piece) (drop at cells))) image
+fits_torn_by_parts zero piece cells was image le fits torn = fits_torn_piece piece cells was image fits torn.behind (let l = torn.no_longer in omega arith)
+fits_torn_by_parts (suc at) piece cells was [] le fits torn = tt
+fits_torn_by_parts (suc at) piece [] was (byte ∷ image) le fits torn = absurd (omega arith)
+fits_torn_by_parts (suc at) piece (cell ∷ cells) [] (byte ∷ image) le fits torn = (let e = torn.before in absurd (cc))
+fits_torn_by_parts (suc at) piece (cell ∷ cells) (w ∷ was) (byte ∷ image) le fits torn =
+    let here : byte ≡ w = ap (λ (l : List ℕ). get_or l 0 0) torn.before in (
+      (λ h. here ∙ fits.0 h),
+      fits_torn_by_parts at piece cells was image (omega arith) fits.1 (record {
+        before = ap (λ (l : List ℕ). drop 1 l) torn.before;
+        behind = torn.behind;
+        no_shorter = (let l = torn.no_shorter in omega arith);
+        no_longer = (let l = torn.no_longer in omega arith);
+      }),
+    )
+
+pub fits_torn : (at : ℕ) (piece : List ℕ) (cells : List Cell) (was image : List ℕ) → at ≤ length cells → FitsCells cells was → Torn at (length piece) was image → FitsCells (over at (pended piece) cells) image
+fits_torn at piece cells was image le fits torn =
+    let e : length (pended piece) ≡ length piece = length-map piece (λ (byte : ℕ). record { byte = byte; pending = true }) in
+    subst (λ (n : ℕ). FitsCells (take at cells ++ (pended piece ++ drop n (drop at cells))) image) (sym e) (fits_torn_by_parts at piece cells was image le fits (record {
+      before = torn.before;
+      behind = drop-drop (length piece) at image ∙ torn.behind ∙ sym (drop-drop (length piece) at was);
+      no_shorter = torn.no_shorter;
+      no_longer = torn.no_longer;
+    }))
+
 -- A cut.
 
 pub fits_cut : (n : ℕ) (cells : List Cell) (bytes : List ℕ) → FitsCells cells bytes → FitsCells (take n cells ++ opened (drop n cells)) bytes
@@ -253,3 +294,18 @@ open_cut n least cells image le no_shorter fits =
       ],
       h.is_open,
     )
+
+-- the other way round: each open image fits after the cut
+opened_short : (cells : List Cell) (image : List ℕ) → length image ≤ length cells → FitsCells (opened cells) image
+opened_short cells [] le = tt
+opened_short [] (byte ∷ image) le = absurd (omega arith)
+opened_short (cell ∷ cells) (byte ∷ image) le = ((λ h. absurd (cc)), opened_short cells image (omega arith))
+
+pub fits_open : (n : ℕ) (cells : List Cell) (was image : List ℕ) → FitsCells cells was → take n image ≡ take n was → length image ≤ length was → FitsCells (take n cells ++ opened (drop n cells)) image
+fits_open zero cells was image fits front le = opened_short cells image (let l = fits_length cells was fits in omega arith)
+fits_open (suc n) cells was [] fits front le = tt
+fits_open (suc n) cells [] (byte ∷ image) fits front le = absurd (omega arith)
+fits_open (suc n) [] (w ∷ was) (byte ∷ image) fits front le = absurd fits
+fits_open (suc n) (cell ∷ cells) (w ∷ was) (byte ∷ image) fits front le =
+    let here : byte ≡ w = ap (λ (l : List ℕ). get_or l 0 0) front in
+    ((λ h. here ∙ fits.0 h), fits_open n cells was image fits.1 (ap (λ (l : List ℕ). drop 1 l) front) (omega arith))

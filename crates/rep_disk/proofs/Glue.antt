@@ -7,8 +7,8 @@ use Rattle.std.proofs.lemmas.Bool.{cases_lt}
 use Rattle.std.proofs.lemmas.Bool.Decides.{nat_tests}
 use Rattle.rep_io.specs.Causes.{last_count, HasCause}
 use Rattle.rep_io.specs.declared.cause.Failed.{Failed}
-use Rattle.rep_disk.specs.Disk.{Same, Moves, Torn, CutBetween, Writes, Cuts, last_moment}
-use Rattle.rep_disk.specs.Record.{Made, Step, Put, Shorten, over, changed}
+use Rattle.rep_disk.specs.Disk.{Same, Moves, Opens, Renames, Torn, CutBetween, Writes, Cuts, as_named, last_moment, written_by_name}
+use Rattle.rep_disk.specs.Record.{Made, Put, Shorten, over, changed}
 use Rattle.rep_disk.specs.Memory.{Memory, Counts, Listed, IsSound, fresh, memory_shown, counted, state_at}
 use Rattle.rep_disk.specs.Fields.{memory_of, IsKept, log_of, made_of, size_of_all}
 use Rattle.rep_disk.specs.Calls.{Goes, Looks, WritesAt, CutsAt, Syncs}
@@ -18,7 +18,8 @@ use Rattle.rep_disk.specs.declared.mem_disk.Calls.{Calls}
 use Rattle.rep_disk.specs.declared.change.Change.{Change}
 use Rattle.rep_disk.specs.declared.change.Kind.TheVariants.{Write, Cut}
 use Rattle.rep_disk.proofs.Replay.{IsStepOf, sound_rest}
-use Rattle.rep_disk.proofs.Keeping.{Idles, Makes, Secures, own_both, idle_sound, idle_stays, stays_moves, made_sound, made_moves, secure_sound, secure_rest, secure_moves}
+use Rattle.rep_disk.proofs.Keeping.{Idles, Makes, Secures, own_both, idle_sound, idle_stays, idle_names, idle_opens, idle_surely, stays_moves, stays_opens, made_sound, made_moves, made_opens, made_names, secure_sound, secure_rest, secure_moves, secure_opens, secure_names}
+use Rattle.rep_disk.proofs.Names.{named_nothing}
 use Rattle.rep_disk.proofs.Log.{log_snoc, size_snoc, log_last}
 
 pub faults_after : (before now : ℕ) (fails : Bool) → now ≡ cond fails (counted before) before → before ≤ last_count → (before ≤ now) × (now ≤ last_count)
@@ -28,8 +29,8 @@ faults_after before now false e le = (omega arith, omega arith)
 -- the count of faults, by what the call answered
 pub cause_of : {T : Type 0} (before now : ℕ) (fails : Bool) (result : Result T Failed) → is_err result ≡ fails → now ≡ cond fails (counted before) before → before ≤ last_count → HasCause before now result
 cause_of before now true (Ok v) is e le = absurd (cc)
-cause_of before now false (Ok v) is e le = record { later = omega arith; failed = tt }
-cause_of before now true (Err v) is e le = record { later = omega arith; failed = omega arith }
+cause_of before now false (Ok v) is e le = record { later = omega arith; failed = tt; kept = e }
+cause_of before now true (Err v) is e le = record { later = omega arith; failed = omega arith; kept = tt }
 cause_of before now false (Err v) is e le = absurd (cc)
 
 pub goes_with : {T : Type 0} (to_fail : Memory → Bool) (after : Counts → Counts) (a b : Inside) (old : Memory) (result : Result T Failed) (fails : Bool) → memory_of a ≡ old
@@ -41,6 +42,7 @@ goes_with {T} to_fail after a b old result fails view_is before now answered by 
       counts = counts;
       listed = listed;
       time = (let r = before.in_range in omega arith);
+      faults = faults ∙ ap (λ (f : Bool). cond f (counted a.faults) a.faults) by;
       cause = cause_of a.faults b.faults fails result answered faults before.faults_in_range;
       own = own_both (memory_of a) (memory_of b) before now;
     })
@@ -74,6 +76,7 @@ module _ (a : Inside) (moment faults : ℕ) (calls : Calls) (fails : Bool) (kept
     bytes = refl;
     spare = omega arith;
     crash = idle_stays (memory_of a) (memory_of idle) idles kept.sound;
+    names = idle_names as_named (memory_of a) (memory_of idle) (λ name bytes. refl) idles kept.sound;
     first = refl;
     log = refl;
   })
@@ -85,6 +88,8 @@ module _ (a : Inside) (moment faults : ℕ) (calls : Calls) (fails : Bool) (kept
     bytes = refl;
     spare = omega arith;
     crash = stays_moves Same (memory_of a) (memory_of idle) (λ image. refl) (idle_stays (memory_of a) (memory_of idle) idles kept.sound);
+    opens = idle_opens (memory_of a) (memory_of idle) (record {}) (idle_stays (memory_of a) (memory_of idle) idles kept.sound);
+    names = idle_surely (memory_of a) (memory_of idle) (record {}) idles kept.sound;
     first = refl;
     log = refl;
   })
@@ -111,6 +116,12 @@ over_nothing at xs = take-append-drop at xs
 
 torn_same : (at n : ℕ) (xs : List ℕ) → Torn at n xs xs
 torn_same at n xs = record { before = refl; behind = refl; no_shorter = omega arith; no_longer = omega arith }
+
+torn_nothing : (at n : ℕ) (was image : List ℕ) → n ≡ 0 → Torn at n was image → image ≡ was
+torn_nothing at n was image none torn =
+    let e : at + n ≡ at = omega arith in
+    let behind : drop at image ≡ drop at was = ap (λ (k : ℕ). drop k image) (sym e) ∙ torn.behind ∙ ap (λ (k : ℕ). drop k was) e in
+    sym (take-append-drop at image) ∙ ap (λ (l : List ℕ). l ++ drop at image) torn.before ∙ ap (λ (l : List ℕ). take at was ++ l) behind ∙ take-append-drop at was
 
 -- what a write answers, by whether it fails
 writes_contents : (at : ℕ) (piece old new : List ℕ) (fails : Bool) (result : Result (Unit {0}) Failed) → is_err result ≡ fails → new ≡ cond fails old (over at piece old) → Writes at piece (Some old) (Some new) result
@@ -168,6 +179,8 @@ module _ (a b : Inside) (at : ℕ) (piece : List ℕ) (begun : ℕ) (fails : Boo
   record WriteGoes : Type 0 where
     sound : IsSound (memory_of b)
     moves : Moves (Torn at (length piece)) (memory_shown (memory_of a)) (memory_shown (memory_of b))
+    opens : Opens (Torn at (length piece)) (memory_shown (memory_of a)) (memory_shown (memory_of b))
+    names : Renames (written_by_name at piece) (memory_shown (memory_of a)) (memory_shown (memory_of b))
     pieces : size_of_all b.log.items ≡ length b.pieces.items
     untouched : b.is_copied ≡ false → (b.log.items ≡ []) × (b.spare ≡ 0) × (b.first.items ≡ [])
     first : (memory_of b).first ≡ (memory_of a).first
@@ -199,6 +212,8 @@ module _ (a b : Inside) (at : ℕ) (piece : List ℕ) (begun : ℕ) (fails : Boo
       record {
         sound = idle_sound (memory_of a) (memory_of b) idles kept.sound;
         moves = stays_moves (Torn at (length piece)) (memory_of a) (memory_of b) (torn_same at (length piece)) stays;
+        opens = stays_opens (Torn at (length piece)) (memory_of a) (memory_of b) (λ was image torn. torn_nothing at (length piece) was image e torn) stays;
+        names = subst (λ (p : List ℕ). Renames (written_by_name at p) (memory_shown (memory_of a)) (memory_shown (memory_of b))) (sym none) (idle_names (written_by_name at []) (memory_of a) (memory_of b) (named_nothing at) idles kept.sound);
         pieces = ap size_of_all log ∙ kept.pieces ∙ sym (ap length pieces);
         untouched = (λ not. let u = kept.untouched (sym w.copied ∙ not) in (log ∙ u.0, (let z : a.spare ≡ 0 = u.1 in let s = w.spare in omega arith), w.first ∙ u.2));
         first = idles.first;
@@ -240,6 +255,8 @@ module _ (a b : Inside) (at : ℕ) (piece : List ℕ) (begun : ℕ) (fails : Boo
       record {
         sound = made_sound (Put at piece) fails (memory_of a) (memory_of b) makes kept.sound inside;
         moves = made_moves (Put at piece) fails (memory_of a) (memory_of b) makes kept.sound inside;
+        opens = made_opens (Put at piece) fails (memory_of a) (memory_of b) makes kept.sound inside;
+        names = made_names (Put at piece) fails (memory_of a) (memory_of b) makes kept.sound;
         pieces = ap size_of_all log ∙ size_snoc a.log.items (record { begun = begun; synced = None; kind = Write at (length piece); failed = fails }) ∙ ap (λ (n : ℕ). n + length piece) kept.pieces ∙ sym (length-append a.pieces.items piece) ∙ sym (ap length w.pieces);
         untouched = (λ not. let both : false ≡ true = sym not ∙ (w.copied ∙ copied) in absurd (cc));
         first = makes.first;
@@ -289,6 +306,8 @@ module _ (a b : Inside) (at : ℕ) (piece : List ℕ) (begun : ℕ) (fails : Boo
         unchanged = unchanged_when a.bytes.items b.bytes.items (over at piece a.bytes.items) fails result answered w.bytes;
         spare = omega arith;
         crash = g.moves;
+        opens = g.opens;
+        names = g.names;
         first = g.first;
         log = g.log ∙ ap (λ (f : Bool). cond (nat_eq (length piece) 0) (memory_of a).log (with_noted f)) (sym answered);
       })
@@ -361,6 +380,8 @@ module _ (a b : Inside) (size begun : ℕ) (fails : Bool) (kept : IsKept a) (w :
         unchanged = unchanged_when a.bytes.items b.bytes.items (take size a.bytes.items) fails result answered w.bytes;
         spare = omega arith;
         crash = made_moves (Shorten size) fails (memory_of a) (memory_of b) cut_makes kept.sound tt;
+        opens = made_opens (Shorten size) fails (memory_of a) (memory_of b) cut_makes kept.sound tt;
+        names = made_names (Shorten size) fails (memory_of a) (memory_of b) cut_makes kept.sound;
         first = cut_makes.first;
         log = cut_makes.log
             ∙ ap (λ (n : ℕ). (memory_of a).log ++ record { begun = n; synced = None; step = Shorten size; failed = fails } ∷ []) cut_makes.begins
@@ -414,6 +435,8 @@ module _ (a : Inside) (log : Vec Change Global) (moment faults : ℕ) (calls : C
     bytes = refl;
     spare = omega arith;
     crash = secure_moves (memory_of a) (memory_of after) secures kept.sound;
+    opens = secure_opens (memory_of a) (memory_of after) secures kept.sound;
+    names = secure_names (memory_of a) (memory_of after) secures kept.sound;
     first = refl;
     log = secures.log;
   })

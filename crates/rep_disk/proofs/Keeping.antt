@@ -1,14 +1,17 @@
 -- What each call does to a disk in memory: that its record stays sound, and how its images go on.
-use Rattle.std.proofs.Common.{◌≡◌, ℕ, ◌+◌, ◌<◌, ◌≤◌, min, Bool, List, [], ◌∷◌, ◌++◌, Some, None, Option, refl, sym, ap, ◌∙◌, subst, inl, inr, arith, ⊎_elim}
-use Rattle.std.specs.Prelude.{◌⊎◌, ◌↔◌}
+use Rattle.std.proofs.Common.{◌≡◌, ℕ, ◌+◌, ◌<◌, ◌≤◌, min, Bool, List, [], ◌∷◌, ◌++◌, Some, None, Option, Ok, Err, refl, sym, ap, ◌∙◌, subst, inl, inr, arith, ⊎_elim}
+use Rattle.std.specs.Prelude.{◌↔◌}
 use Rattle.std.proofs.lemmas.Bool.{cases_lt}
-use Rattle.rep_disk.specs.Disk.{Moves, Stays, Same, IsAtRest, IsOwnImage, last_moment}
-use Rattle.rep_disk.specs.Record.{Made, State, Step, IsImage, IsSoundState, IsDated, at_rest, changed, reached, replay}
+use Rattle.rep_disk.specs.Disk.{ByName, Moves, Opens, OpensUntil, Renames, RenamesSurely, Stays, Same, IsAtRest, IsOwnImage, as_named, last_moment}
+use Rattle.rep_disk.specs.Record.{Made, State, Step, IsImage, IsSoundState, IsDated, at_rest, changed, image_of, reached, replay}
 use Rattle.rep_io.specs.Causes.{last_count}
-use Rattle.rep_disk.specs.Changes.{first_sync, secured, Secured}
+use Rattle.rep_disk.specs.Changes.{secured, Secured}
 use Rattle.rep_disk.specs.Memory.{Memory, IsSound, state_at, memory_shown}
+use Rattle.rep_disk.specs.declared.image.Image.{Image}
+use Rattle.rep_io.specs.declared.cause.Failed.{Failed}
 use Rattle.rep_disk.proofs.Cells.{fits_only}
-use Rattle.rep_disk.proofs.Replay.{reached_not, reached_is, settled_not, settled_is, replay_snoc, replay_dated, dated_later, dated_snoc, dated_front, dated_last, sound_changed, sound_rest, own_image, IsStepOf, AltersImage, image_changed}
+use Rattle.rep_disk.proofs.Names.{by_step, named_changed, named_rested}
+use Rattle.rep_disk.proofs.Replay.{reached_not, reached_is, settled_not, settled_is, replay_snoc, replay_dated, dated_later, dated_snoc, dated_front, dated_last, sound_changed, sound_rest, own_image, IsStepOf, AltersImage, image_changed, image_opened}
 
 -- images of one state are those of an equal one
 pub image_at : (s t : State) (image : List ℕ) → s ≡ t → IsImage s image → IsImage t image
@@ -16,6 +19,10 @@ image_at s t image e is = subst (λ (x : State). IsImage x image) e is
 
 same_images : (s t : State) (image : List ℕ) → s ≡ t → IsImage s image ↔ IsImage t image
 same_images s t image e = (image_at s t image e, image_at t s image (sym e))
+
+-- and are told by the same names
+same_named : (name : Image) (s t : State) → s ≡ t → Some (image_of name s) ≡ Some (image_of name t)
+same_named name s t e = ap (λ (x : State). Some (image_of name x)) e
 
 pub own : (disk : Memory) → IsSound disk → IsOwnImage (memory_shown disk)
 own disk sound below = subst (IsImage (state_at disk disk.moment)) sound.seen (own_image (state_at disk disk.moment) (sound.sound disk.moment))
@@ -63,6 +70,28 @@ stays_moves step old new same stays below =
       images = λ m image after le is. (image, (s.images m image after le).0 is, same image);
       settles = λ m later image after le last is. (s.images m image after (omega arith)).1 ((s.images later image (omega arith) last).0 is);
     }
+
+pub stays_opens : (step : List ℕ → List ℕ → Type 0) (old new : Memory) → ((was image : List ℕ) → step was image → image ≡ was) → Stays (memory_shown old) (memory_shown new) → Opens step (memory_shown old) (memory_shown new)
+stays_opens step old new same stays below m was image after le is stepped =
+    let s = stays below in
+    (s.images m image after le).1 (subst (IsImage (state_at old old.moment)) (sym (same was image stepped)) is)
+
+pub idle_names : (step : ByName) (old new : Memory) → ((name : Image) (bytes : List ℕ) → step name bytes ≡ bytes) → Idles old new → IsSound old → Renames step (memory_shown old) (memory_shown new)
+idle_names step old new same idles sound below = record {
+  past = λ m le name. same_named name (state_at new m) (state_at old m) (idle_state old new m idles);
+  now = λ m after le name.
+      same_named name (state_at new m) (state_at old old.moment) (idle_state old new m idles ∙ later_same old m sound (omega arith))
+      ∙ sym (ap (λ (l : List ℕ). Some l) (same name (image_of name (state_at old old.moment))));
+}
+
+-- a sync that failed leaves what was pending as it was
+pub idle_opens : (old new : Memory) (fault : Failed) → Stays (memory_shown old) (memory_shown new) → OpensUntil (memory_shown old) (memory_shown new) (Err fault)
+idle_opens old new fault stays below m image after le _ is = let s = stays below in (s.images m image after le).1 is
+
+pub idle_surely : (old new : Memory) (fault : Failed) → Idles old new → IsSound old → RenamesSurely (memory_shown old) (memory_shown new) (Err fault)
+idle_surely old new fault idles sound below =
+    let renamed = idle_names as_named old new (λ name bytes. refl) idles sound below in
+    record { past = renamed.past; within = λ m after le _. renamed.now m after le; after = tt }
 
 -- A change.
 pub record Makes (step : Step) (failed : Bool) (old new : Memory) : Type 0 where
@@ -117,6 +146,22 @@ module _ (step : Step) (failed : Bool) (old new : Memory) (makes : Makes step fa
         past = (λ m image le. same_images (state_at new m) (state_at old m) image (not_yet m (omega arith)));
         images = (λ m image after le is. image_changed step failed (state_at old old.moment) image within (sound.sound old.moment) (image_at (state_at new m) (changed step failed (state_at old old.moment)) image (from_then m (omega arith)) is));
         settles = (λ m later image after le last is. image_at (state_at new later) (state_at new m) image (from_then later (omega arith) ∙ sym (from_then m (omega arith))) is);
+      }
+
+  pub made_opens : IsStepOf step (state_at old old.moment) → Opens (AltersImage step) (memory_shown old) (memory_shown new)
+  made_opens within below m was image after le is altered =
+      let h = makes.begins in
+      image_at (changed step failed (state_at old old.moment)) (state_at new m) image (sym (from_then m (omega arith))) (image_opened step failed (state_at old old.moment) was image within (sound.sound old.moment) is altered)
+
+  pub made_names : Renames (by_step step) (memory_shown old) (memory_shown new)
+  made_names below =
+      let h = makes.begins in
+      let n = makes.moment in
+      record {
+        past = (λ m le name. same_named name (state_at new m) (state_at old m) (not_yet m (omega arith)));
+        now = (λ m after le name.
+            same_named name (state_at new m) (changed step failed (state_at old old.moment)) (from_then m (omega arith))
+            ∙ ap (λ (l : List ℕ). Some l) (named_changed name step failed (state_at old old.moment)));
       }
 
 -- A sync that succeeds.
@@ -227,7 +272,10 @@ module _ (old new : Memory) (secures : Secures old new) (sound : IsSound old) wh
       fits_only old.bytes image at.fits at.no_shorter
 
   pub secure_rest : IsAtRest (memory_shown new)
-  secure_rest below image is = only_bytes new.moment image (omega arith) is ∙ sym secures.bytes
+  secure_rest below image = (
+    (λ is. only_bytes new.moment image (omega arith) is ∙ sym secures.bytes),
+    (λ e. subst (IsImage (state_at new new.moment)) (sym e) (own new secure_sound below)),
+  )
 
   -- within the sync what was pending stays so
   within : (m : ℕ) → old.moment ≤ m → m < new.moment → state_at new m ≡ state_at old old.moment
@@ -253,4 +301,19 @@ module _ (old new : Memory) (secures : Secures old new) (sound : IsSound old) wh
         past = (λ m image le. same_images (state_at new m) (state_at old m) image (s.early m (omega arith)));
         images = (λ m image after le is. (image, kept_image m image (omega arith) is, refl));
         settles = (λ m last image after le end is. settled_image m last image (omega arith) le is);
+      }
+
+  pub secure_opens : OpensUntil {E = Failed} (memory_shown old) (memory_shown new) (Ok tt)
+  secure_opens below m image after le lt is = image_at (state_at old old.moment) (state_at new m) image (sym (within m (omega arith) lt)) is
+
+  pub secure_names : RenamesSurely {E = Failed} (memory_shown old) (memory_shown new) (Ok tt)
+  secure_names below =
+      let s = is_secured in
+      let e = secures.moment in
+      record {
+        past = (λ m le name. same_named name (state_at new m) (state_at old m) (s.early m (omega arith)));
+        within = (λ m after le lt name. same_named name (state_at new m) (state_at old old.moment) (within m (omega arith) lt));
+        after = (λ name.
+            same_named name (state_at new new.moment) (at_rest old.bytes) (s.late new.moment (omega arith))
+            ∙ ap (λ (l : List ℕ). Some l) (named_rested name old.bytes ∙ sym secures.bytes));
       }

@@ -1,4 +1,5 @@
 pub mod Cells
+pub mod Names
 pub mod Replay
 pub mod Keeping
 pub mod Log

@@ -8,7 +8,7 @@ use Rattle.rep_disk.specs.declared.image.Image.{Image}
 use Rattle.rep_disk.specs.declared.image.Image.TheVariants.{Old, New, Odd}
 use Rattle.rep_disk.specs.declared.standing.Cell.{Cell}
 use Rattle.rep_disk.specs.Disk.{Torn, CutOpen}
-use Rattle.rep_disk.proofs.Cells.{fits_length, fits_bytes, fits_take, fits_rested, fits_over, fits_over_both, fits_cut, length-over, torn_write, open_cut}
+use Rattle.rep_disk.proofs.Cells.{fits_length, fits_bytes, fits_take, fits_rested, fits_over, fits_over_both, fits_cut, fits_torn, fits_open, length-over, torn_write, open_cut}
 
 pub le_true : (a b : ℕ) → a ≤ b → nat_le a b ≡ true
 le_true a b h = grind (arith, nat_tests)
@@ -136,6 +136,20 @@ image_changed (Shorten size) failed s image within sound is =
     let seen = sound.seen_length in
     let h = open_cut size s.least s.cells image (omega arith) is.no_shorter is.fits in
     (h.0, record { no_shorter = h.2; fits = h.1 }, h.3)
+
+-- the other way round: in and after a change each of its outcomes is an image
+pub image_opened : (step : Step) (failed : Bool) (s : State) (was image : List ℕ) → IsStepOf step s → IsSoundState s → IsImage s was → AltersImage step was image → IsImage (changed step failed s) image
+image_opened (Put at piece) failed s was image within sound is torn =
+    let cells = fits_length s.cells s.seen sound.seen_fits in
+    record {
+      no_shorter = (let l = is.no_shorter in let m = torn.no_shorter in omega arith);
+      fits = fits_torn at piece s.cells was image (omega arith) is.fits torn;
+    }
+image_opened (Shorten size) failed s was image within sound is past =
+    record {
+      no_shorter = (let l = is.no_shorter in let m = past.no_shorter in omega arith);
+      fits = fits_open size s.cells was image is.fits past.front past.no_longer;
+    }
 
 odd_fits : (cells : List Cell) → FitsCells cells (map (λ (cell : Cell). cond cell.pending 55 cell.byte) cells)
 odd_fits [] = tt

@@ -3,7 +3,7 @@
 use Rattle.std.specs.Prelude.{◌≡◌, ◌↔◌, ℕ, ◌+◌, ◌≤◌, nat_eq, Bool, if◌then◌else◌, List, [], ◌∷◌, ◌++◌, length, is_err, OnErr, OnOk, MatchResult, Some, Result}
 use Rattle.rep_io.specs.Causes.{HasCause}
 use Rattle.rep_io.specs.declared.cause.Failed.{Failed}
-use Rattle.rep_disk.specs.Disk.{Advances, CutOpen, Cuts, IsAtRest, IsOwnImage, Moves, Same, Stays, Torn, Writes}
+use Rattle.rep_disk.specs.Disk.{Advances, CutOpen, Cuts, IsAtRest, IsOwnImage, Moves, Opens, OpensUntil, Renames, RenamesSurely, Same, Stays, Torn, Writes, as_named, cut_by_name, written_by_name}
 use Rattle.rep_disk.specs.Record.{Put, Shorten}
 use Rattle.rep_disk.specs.Changes.{noted, Secured}
 use Rattle.rep_disk.specs.Memory.{Memory, Counts, memory_shown, counted}
@@ -27,6 +27,8 @@ pub record Goes {T : Type 0} (to_fail : Bool) (after : Counts) (old new : Memory
   pub counts : new.counts ≡ after
   pub listed : new.listed ≡ old.listed
   pub time : Advances old.moment new.moment
+  -- the count rises by one exactly where the call fails
+  pub faults : new.faults ≡ (if to_fail then counted old.faults else old.faults)
   pub cause : HasCause old.faults new.faults result
   pub own : IsOwnImage (memory_shown old) ↔ IsOwnImage (memory_shown new)
 
@@ -35,6 +37,7 @@ pub record Looks (old new : Memory) : Type 0 where
   pub bytes : new.bytes ≡ old.bytes
   pub spare : old.spare ≤ new.spare
   pub crash : Stays (memory_shown old) (memory_shown new)
+  pub names : Renames as_named (memory_shown old) (memory_shown new)
   pub first : new.first ≡ old.first
   pub log : new.log ≡ old.log
 
@@ -43,6 +46,8 @@ pub record WritesAt (at : ℕ) (piece : List ℕ) (old new : Memory) (result : R
   pub unchanged : OnErr result (new.bytes ≡ old.bytes)
   pub spare : old.spare ≤ new.spare + length piece
   pub crash : Moves (Torn at (length piece)) (memory_shown old) (memory_shown new)
+  pub opens : Opens (Torn at (length piece)) (memory_shown old) (memory_shown new)
+  pub names : Renames (written_by_name at piece) (memory_shown old) (memory_shown new)
   pub first : new.first ≡ old.first
   -- the write is noted, also where it fails, and stays pending
   pub log : new.log ≡ (if nat_eq (length piece) 0 then old.log else old.log ++ noted old.moment (Put at piece) (is_err result) ∷ [])
@@ -52,6 +57,8 @@ pub record CutsAt (size : ℕ) (old new : Memory) (result : Result (Unit {0}) Fa
   pub unchanged : OnErr result (new.bytes ≡ old.bytes)
   pub spare : old.spare ≤ new.spare + 1
   pub crash : Moves (CutOpen size) (memory_shown old) (memory_shown new)
+  pub opens : Opens (CutOpen size) (memory_shown old) (memory_shown new)
+  pub names : Renames (cut_by_name size) (memory_shown old) (memory_shown new)
   pub first : new.first ≡ old.first
   -- the cut is noted, also where it fails, and stays pending
   pub log : new.log ≡ old.log ++ noted old.moment (Shorten size) (is_err result) ∷ []
@@ -61,6 +68,8 @@ pub record Syncs (old new : Memory) (result : Result (Unit {0}) Failed) : Type 0
   pub bytes : new.bytes ≡ old.bytes
   pub spare : old.spare ≤ new.spare
   pub crash : Moves Same (memory_shown old) (memory_shown new)
+  pub opens : OpensUntil (memory_shown old) (memory_shown new) result
+  pub names : RenamesSurely (memory_shown old) (memory_shown new) result
   pub first : new.first ≡ old.first
   -- where it fails, what was pending stays so
   pub log : MatchResult result (λ _. Secured new.moment old.log new.log) (λ _. new.log ≡ old.log)

@@ -6,7 +6,10 @@
 -- the least and the greatest length since that sync, and which agree with the contents at each place that isn't
 -- pending. Each device call adds two moments, one within it and one after it: within a write its range counts as
 -- written, and within a cut its length counts as reached.
-use Rattle.std.specs.Prelude.{◌≡◌, ◌↔◌, ℕ, ◌+◌, ◌-◌, ◌^◌, ◌<◌, ◌≤◌, min, max, List, ◌++◌, length, take, drop, MatchResult, IfOk, IfSome, Result, Some, None, Option, ⊤}
+use Rattle.std.specs.Prelude.{◌≡◌, ◌↔◌, ℕ, ◌+◌, ◌-◌, ◌^◌, ◌<◌, ◌≤◌, min, max, List, ◌++◌, length, take, drop, replicate, MatchResult, IfOk, IfSome, OnOk, Result, Some, None, Option, option_map, ⊤}
+use Rattle.rep_disk.specs.Record.{over, odd_byte}
+use Rattle.rep_disk.specs.declared.image.Image.{Image}
+use Rattle.rep_disk.specs.declared.image.Image.TheVariants.{Old, New, Odd}
 
 -- what a disk shows
 pub record Shown : Type 1 where
@@ -18,6 +21,8 @@ pub record Shown : Type 1 where
   pub moment : ℕ
   -- what a crash at a moment may leave
   pub may_leave : ℕ → List ℕ → Type 0
+  -- three of the images of a moment, where the disk tells them: with the pending bytes as before, as written, and odd
+  pub named : Image → ℕ → Option (List ℕ)
   -- how often the disk has failed
   pub faults : ℕ
 
@@ -120,6 +125,18 @@ pub record Moved (step : List ℕ → List ℕ → Type 0) (old new : Shown) : T
 abbrev pub Moves : (List ℕ → List ℕ → Type 0) → Shown → Shown → Type 0
 Moves step old new = new.moment < last_moment → Moved step old new
 
+-- In and after a call that takes a step each of its outcomes is an image.
+abbrev pub Opens : (List ℕ → List ℕ → Type 0) → Shown → Shown → Type 0
+Opens step old new =
+    new.moment < last_moment → (m : ℕ) (was image : List ℕ) → old.moment < m → m ≤ new.moment
+    → old.may_leave old.moment was → step was image → new.may_leave m image
+
+-- Until a sync has succeeded each image stays one: within it, and after one that failed.
+abbrev pub OpensUntil : {E : Type 0} → Shown → Shown → Result (Unit {0}) E → Type 0
+OpensUntil old new result =
+    new.moment < last_moment → (m : ℕ) (image : List ℕ) → old.moment < m → m ≤ new.moment → OnOk result (m < new.moment)
+    → old.may_leave old.moment image → new.may_leave m image
+
 -- the images in and after calls that leave the pending places as they are
 pub record Stayed (old new : Shown) : Type 0 where
   pub past : KeepsPast old new
@@ -128,13 +145,56 @@ pub record Stayed (old new : Shown) : Type 0 where
 abbrev pub Stays : Shown → Shown → Type 0
 Stays old new = new.moment < last_moment → Stayed old new
 
--- the contents, where they are told, are the only image
+-- the contents, where they are told, are an image at this moment, and the only one
 abbrev pub IsAtRest : Shown → Type 0
-IsAtRest s = s.moment < last_moment → (image : List ℕ) → s.may_leave s.moment image → IfSome s.contents (λ bytes. image ≡ bytes)
+IsAtRest s = s.moment < last_moment → (image : List ℕ) → IfSome s.contents (λ bytes. s.may_leave s.moment image ↔ image ≡ bytes)
+
+-- Images by name
+
+-- what a call makes of an image that is told by this name
+abbrev pub ByName : Type 0
+ByName = Image → List ℕ → List ℕ
+
+abbrev pub as_named : ByName
+as_named name bytes = bytes
+
+-- A write leaves the old image, puts its piece over the new one, and odd bytes over the odd one.
+abbrev pub written_by_name : ℕ → List ℕ → ByName
+written_by_name at piece Old bytes = bytes
+written_by_name at piece New bytes = over at piece bytes
+written_by_name at piece Odd bytes = over at (replicate (length piece) odd_byte) bytes
+
+-- A cut shortens the old image, leaves the new one, and makes the bytes past it odd ones.
+abbrev pub cut_by_name : ℕ → ByName
+cut_by_name size Old bytes = take size bytes
+cut_by_name size New bytes = bytes
+cut_by_name size Odd bytes = take size bytes ++ replicate (length bytes - size) odd_byte
+
+-- the images that a moment names are this step of those that another one of that disk, or of what it was, named
+abbrev pub NamesBy : ByName → Shown → ℕ → Shown → ℕ → Type 0
+NamesBy step old before new now = (name : Image) → new.named name now ≡ option_map (step name) (old.named name before)
+
+-- the images that are named in and after a call
+pub record Renamed (step : ByName) (old new : Shown) : Type 0 where
+  pub past : (m : ℕ) → m ≤ old.moment → NamesBy as_named old m new m
+  pub now : (m : ℕ) → old.moment < m → m ≤ new.moment → NamesBy step old old.moment new m
+
+abbrev pub Renames : ByName → Shown → Shown → Type 0
+Renames step old new = new.moment < last_moment → Renamed step old new
+
+-- the images that are named in and after a sync: after one that succeeded each is the contents, where they are told
+pub record RenamedSurely {E : Type 0} (old new : Shown) (result : Result (Unit {0}) E) : Type 0 where
+  pub past : (m : ℕ) → m ≤ old.moment → NamesBy as_named old m new m
+  pub within : (m : ℕ) → old.moment < m → m ≤ new.moment → OnOk result (m < new.moment) → NamesBy as_named old old.moment new m
+  pub after : OnOk result (IfSome new.contents (λ bytes. NamesBy (λ name was. bytes) old old.moment new new.moment))
+
+abbrev pub RenamesSurely : {E : Type 0} → Shown → Shown → Result (Unit {0}) E → Type 0
+RenamesSurely old new result = new.moment < last_moment → RenamedSurely old new result
 
 -- a call that is no device call changes nothing but the spare room
 pub record IsUntouched (old new : Shown) : Type 0 where
   pub contents : new.contents ≡ old.contents
   pub moment : new.moment ≡ old.moment
   pub images : (m : ℕ) (image : List ℕ) → new.may_leave m image ↔ old.may_leave m image
+  pub names : (m : ℕ) → NamesBy as_named old m new m
   pub faults : new.faults ≡ old.faults

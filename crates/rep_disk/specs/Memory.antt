@@ -3,7 +3,7 @@ use Rattle.std.specs.Prelude.{◌≡◌, ℕ, ◌+◌, ◌≤◌, min, nat_eq, B
 use Rattle.std.specs.List.{list_any}
 use Rattle.rep_io.specs.Causes.{last_count}
 use Rattle.rep_disk.specs.Disk.{Shown, last_moment}
-use Rattle.rep_disk.specs.Record.{Made, State, at_rest, replay, IsImage, IsDated, IsSoundState}
+use Rattle.rep_disk.specs.Record.{Made, State, at_rest, image_of, replay, IsImage, IsDated, IsSoundState}
 
 -- the numbers of the calls that fail, each kind of call numbered from 0
 pub record Listed : Type 0 where
@@ -44,6 +44,7 @@ memory_shown disk = record {
   spare = disk.spare;
   moment = disk.moment;
   may_leave = λ m image. IsImage (state_at disk m) image;
+  named = λ name m. Some (image_of name (state_at disk m));
   faults = disk.faults;
 }
 

@@ -42,6 +42,13 @@ impl FuseDisk {
         self.disk
     }
 
+    /// How many calls have failed.
+    pub fn faults(&self) -> u64
+        ensures { result ≡ self.now.disk.faults }
+    {
+        self.disk.faults()
+    }
+
     // Counts a device call, and says whether it fails.
     fn burn(&mut self) -> bool
         ensures blown { result ≡ is_blown self.old }

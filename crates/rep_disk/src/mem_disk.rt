@@ -106,6 +106,13 @@ impl MemDisk {
         self.moment
     }
 
+    /// How many calls have failed.
+    pub fn faults(&self) -> u64
+        ensures { result ≡ self.now.faults }
+    {
+        self.faults
+    }
+
     /// One of the images that a crash at this moment may leave.
     ///
     /// # Errors

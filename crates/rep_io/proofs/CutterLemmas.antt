@@ -1,5 +1,5 @@
 -- What the steps of a cutter do to the text that is unread.
-use Rattle.std.proofs.Common.{◌≡◌, ◌≢◌, ℕ, suc, ◌+◌, ◌-◌, ◌<◌, ◌≤◌, Bool, true, false, List, [], ◌∷◌, ◌++◌, length, get_or, take, drop, refl, sym, ap, ◌∙◌, subst, arith, None, Some, append_assoc, append-nil, length-append, length-take, length-drop, add-one}
+use Rattle.std.proofs.Common.{◌≡◌, ◌≢◌, inl, ℕ, suc, ◌+◌, ◌-◌, ◌<◌, ◌≤◌, Bool, true, false, List, [], ◌∷◌, ◌++◌, length, get_or, take, drop, refl, sym, ap, ◌∙◌, subst, arith, None, Some, append_assoc, append-nil, length-append, length-take, length-drop, add-one}
 use Rattle.std.specs.Prelude.{Option}
 use Rattle.std.specs.Io.KnownBytes.{prepend_known, IsAtEnd}
 use Rattle.std.proofs.KnownBytes.{prepend_known-nil}
@@ -9,10 +9,12 @@ use Rattle.std.proofs.Math.Seq.{take-append-add, drop-cons}
 use Rattle.rep_io.specs.Lines.{run_text, runs_of, line_feed, longest_line, longest_text}
 use Rattle.rep_io.specs.Cutter.{Cutter, IsCutter, room_of, HasNoLineFeed, IsUnread, TakesRun, GoesOnPast, IsOver, IsAtLimit}
 use Rattle.rep_io.specs.Next.{Tells, TakesLine, IsOfLine, Gives}
-use Rattle.rep_io.specs.Steps.{in_room, EndsAt, NeedsMore, StepsTo, GivesNow, PassesOver}
+use Rattle.rep_io.specs.Steps.{in_room, AsksOnce, EndsAt, NeedsMore, StepsTo, GivesNow, PassesOver}
 use Rattle.rep_io.specs.declared.next.Next.{Next}
 use Rattle.rep_io.specs.declared.next.Next.TheVariants.{Line, TooLong, End, SourceFault, InputLimit}
+use Rattle.rep_io.proofs.KnownBytes.{prepend_known-append}
 use Rattle.rep_io.proofs.LineLemmas.{runs_of-ended, runs_of-whole, length-line_of}
+use Rattle.rep_io.proofs.AskingLemmas.{HasAsked, HasAsked-more}
 
 -- ---- known bytes
 
@@ -20,10 +22,6 @@ use Rattle.rep_io.proofs.LineLemmas.{runs_of-ended, runs_of-whole, length-line_o
 pub known_rest : (held rest : List ℕ) (o : Option (List ℕ)) → prepend_known held o ≡ Some rest → (y : List ℕ) × (o ≡ Some y) × (rest ≡ held ++ y)
 known_rest held rest None e = cc
 known_rest held rest (Some y) e = let same : rest ≡ held ++ y = cc in (y, refl, same)
-
-pub prepend_known-append : (xs ys : List ℕ) (o : Option (List ℕ)) → prepend_known (xs ++ ys) o ≡ prepend_known xs (prepend_known ys o)
-prepend_known-append xs ys None = refl
-prepend_known-append xs ys (Some z) = ap Some (append_assoc xs ys z)
 
 pub nothing_left : (y : List ℕ) (o : Option (List ℕ)) → o ≡ Some y → IsAtEnd o → y ≡ []
 nothing_left y None e end = cc
@@ -253,6 +251,8 @@ module _ {S : Type 0} (left : S → Option (List ℕ)) (faults : S → ℕ) wher
 -- what the steps so far of a call of `next` have done
 pub record HasStepped {S : Type 0} (left : S → Option (List ℕ)) (faults : S → ℕ) (old now : Cutter S) : Type 0 where
   pub steps : StepsTo left faults old now
+  pub asked : HasAsked left old now
+  pub kept : faults now.source ≡ faults old.source
   pub over : IsOver old → IsOver now
   pub limit : IsAtLimit old → IsAtLimit now
 
@@ -265,6 +265,8 @@ module _ {S : Type 0} (left : S → Option (List ℕ)) (faults : S → ℕ) wher
       draws = ([], omega arith, sym (prepend_known-nil (left c.source)));
       later = omega arith;
     };
+    asked = inl refl;
+    kept = refl;
     over = λ over. over;
     limit = λ limit. limit;
   }
@@ -283,9 +285,12 @@ module _ {S : Type 0} (left : S → Option (List ℕ)) (faults : S → ℕ) wher
   }
 
   -- a further step, of a cutter that needs more and so is neither over nor at the limit
-  pub HasStepped-more : (b c d : Cutter S) → HasStepped left faults b c → NeedsMore c → StepsTo left faults c d → HasStepped left faults b d
-  HasStepped-more b c d first needs second = record {
+  pub HasStepped-more : (b c d : Cutter S) → HasStepped left faults b c → NeedsMore c → StepsTo left faults c d → AsksOnce left c d
+      → faults d.source ≡ faults c.source → HasStepped left faults b d
+  HasStepped-more b c d first needs second once kept = record {
     steps = StepsTo-trans b c d first.steps second;
+    asked = HasAsked-more left b c d first.asked needs once;
+    kept = kept ∙ first.kept;
     over = λ over. let ended = (first.over over).ended in let going_on = needs.going_on in cc;
     limit = λ limit. absurd (omega (arith, (first.limit limit).taken, needs.room));
   }

@@ -20,6 +20,10 @@ pub record Cutter (S : Type 0) : Type 0 where
 abbrev pub fresh : {S : Type 0} → S → Cutter S
 fresh source = record { source = source; taken = 0; passed = 0; held = []; ended = false }
 
+-- the most bytes that one read of a cutter gives
+abbrev pub most_of_a_read : ℕ
+most_of_a_read = 4096
+
 -- the place in the whole text where the line under way begins
 abbrev pub line_start : {S : Type 0} → Cutter S → ℕ
 line_start c = c.taken - (c.passed + length c.held)
@@ -71,6 +75,18 @@ pub record IsAtLimit {S : Type 0} (c : Cutter S) : Type 0 where
   pub taken : c.taken ≡ longest_text + 1
   pub under_way : 0 < c.passed + length c.held
   pub no_end : HasNoLineFeed (take (length c.held - 1) c.held)
+
+-- Nothing could be told of the line under way, had the cutter taken these bytes more: no line ends in what it would
+-- hold, it hasn't seen the source end, and the text has room.
+pub record CannotTell {S : Type 0} (c : Cutter S) (more : List ℕ) : Type 0 where
+  pub no_end : HasNoLineFeed (c.held ++ more)
+  pub going_on : c.ended ≡ false
+  pub room : c.taken + length more ≤ longest_text
+
+-- the same source, of which the same was taken
+pub record TakesNothing {S : Type 0} (old new : Cutter S) : Type 0 where
+  pub source : new.source ≡ old.source
+  pub taken : new.taken ≡ old.taken
 
 -- the source gave just the bytes that were taken
 abbrev pub Draws : {S : Type 0} → (S → Option (List ℕ)) → Cutter S → Cutter S → Type 0

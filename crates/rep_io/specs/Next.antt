@@ -1,7 +1,8 @@
 -- What a call of `next` says of the unread text: this project's own.
-use Rattle.std.specs.Prelude.{◌≡◌, ℕ, ◌+◌, ◌<◌, ◌≤◌, List, [], length, Option}
+use Rattle.std.specs.Prelude.{◌≡◌, ◌⊎◌, ℕ, ◌+◌, ◌<◌, ◌≤◌, false, List, [], ◌++◌, length, Option}
+use Rattle.std.specs.Io.KnownBytes.{prepend_known}
 use Rattle.rep_io.specs.Lines.{Run, run_text, line_of, has_return, longest_line}
-use Rattle.rep_io.specs.Cutter.{Cutter, line_start, room_of, IsUnread, TakesRun, GoesOnPast, IsOver}
+use Rattle.rep_io.specs.Cutter.{Cutter, line_start, room_of, IsUnread, TakesRun, GoesOnPast, IsOver, CannotTell, TakesNothing, most_of_a_read}
 use Rattle.rep_io.specs.declared.next.Next.{Next}
 use Rattle.rep_io.specs.declared.next.Next.TheVariants.{Line, TooLong, End, SourceFault, InputLimit}
 
@@ -46,3 +47,16 @@ Gives left old new TooLong text = TakesLine left old new TooLong text
 Gives left old new End text = (text ≡ []) × IsOver new
 Gives left old new SourceFault text = KeepsLine left old new text
 Gives left old new InputLimit text = GoesOnPast (room_of old) text × KeepsLine left old new text
+
+-- The source is asked only where that is due: either it wasn't asked at all, or nothing could be told yet before the last
+-- read. A read that failed was the last, and gave nothing. Since each read may fail, and no failure is passed over, this
+-- refuses a read behind one that gave enough.
+pub record AsksWhereDue {S : Type 0} (left : S → Option (List ℕ)) (old new : Cutter S) (next : Next) : Type 0 where
+  -- what was taken before the last read, and what that read gave
+  pub before : List ℕ
+  pub last : List ℕ
+  pub draws : left old.source ≡ prepend_known (before ++ last) (left new.source)
+  pub taken : new.taken ≡ old.taken + length (before ++ last)
+  pub piece : length last ≤ most_of_a_read
+  pub due : TakesNothing old new ⊎ CannotTell old before
+  pub failed : next ≡ SourceFault → (last ≡ []) × (new.ended ≡ false)

@@ -1,8 +1,9 @@
 -- The steps of a call of `next`, between which a cutter has taken more of its source and given nothing: this
 -- project's own.
-use Rattle.std.specs.Prelude.{◌≡◌, ℕ, ◌+◌, ◌-◌, ◌<◌, ◌≤◌, Bool, false, if◌then◌else◌, List, length, take, slice_index, Option}
+use Rattle.std.specs.Prelude.{◌≡◌, ℕ, ◌+◌, ◌-◌, ◌<◌, ◌≤◌, Bool, false, if◌then◌else◌, List, ◌++◌, length, take, slice_index, Option}
+use Rattle.std.specs.Io.KnownBytes.{prepend_known}
 use Rattle.rep_io.specs.Lines.{line_feed, longest_line, longest_text}
-use Rattle.rep_io.specs.Cutter.{Cutter, line_start, HasNoLineFeed, IsUnread, Draws, IsOver, IsAtLimit}
+use Rattle.rep_io.specs.Cutter.{Cutter, line_start, HasNoLineFeed, IsUnread, Draws, IsOver, IsAtLimit, TakesNothing, most_of_a_read}
 use Rattle.rep_io.specs.Next.{Advances, Gives}
 use Rattle.rep_io.specs.declared.next.Next.{Next}
 use Rattle.rep_io.specs.declared.next.Next.TheVariants.{Line, TooLong, End, SourceFault, InputLimit}
@@ -34,10 +35,19 @@ pub record StepsTo {S : Type 0} (left : S → Option (List ℕ)) (faults : S →
 abbrev pub work_of : {S : Type 0} → Cutter S → ℕ
 work_of c = (longest_text + 1 - c.taken) + (if c.ended then 0 else 1)
 
--- the same source, of which the same was taken
-pub record TakesNothing {S : Type 0} (old new : Cutter S) : Type 0 where
-  pub source : new.source ≡ old.source
+-- The source was asked once. What it gave stands behind what is held.
+pub record AsksOnce {S : Type 0} (left : S → Option (List ℕ)) (old new : Cutter S) : Type 0 where
+  pub front : List ℕ
+  pub last : List ℕ
+  pub held : new.held ≡ front ++ last
+  pub draws : left old.source ≡ prepend_known last (left new.source)
+  pub taken : new.taken ≡ old.taken + length last
+  pub piece : length last ≤ most_of_a_read
+
+-- nothing was taken, and the source isn't known to have ended
+pub record GetsNothing {S : Type 0} (old new : Cutter S) : Type 0 where
   pub taken : new.taken ≡ old.taken
+  pub going_on : new.ended ≡ false
 
 -- this line was told, or that it is too long
 abbrev pub IsTold : Next → List ℕ → Bool → Type 0

@@ -17,7 +17,7 @@ pub trait Clock {
     /// told them before.
     ghost readings: { Self → Option (List ℕ) };
 
-    /// How often the clock has failed: a 64-bit count that never falls.
+    /// How often the clock has failed: a 64-bit count that never falls, and that a call which does not fail leaves as it is.
     ghost faults: { Self → ℕ };
 
     /// The minute now, from `FIRST_READING` to `LAST_READING`. It need not be later than one before.

@@ -1,9 +1,9 @@
-ghost use Rattle.std.specs.Prelude.{◌≡◌, ◌⊎◌, ℕ, ◌+◌, ◌<◌, ◌≤◌, List, true, false, length, OnOk, MatchOption};
+ghost use Rattle.std.specs.Prelude.{◌≡◌, ◌⊎◌, ℕ, ◌+◌, ◌<◌, ◌≤◌, List, true, false, length, OnErr, OnOk, MatchOption};
 ghost use Rattle.rep_io.specs.Causes.{HasCause, Rose};
 ghost use Rattle.rep_io.specs.Lines.{longest_text};
-ghost use Rattle.rep_io.specs.Cutter.{IsCutter, fresh, HasNoLineFeed, IsUnread, Draws, IsOver, IsAtLimit};
-ghost use Rattle.rep_io.specs.Next.{Advances, Gives, IsOfLine, TakesLine};
-ghost use Rattle.rep_io.specs.Steps.{in_room, EndsAt, NeedsMore, StepsTo, work_of, TakesNothing, GivesNow, PassesOver};
+ghost use Rattle.rep_io.specs.Cutter.{IsCutter, fresh, HasNoLineFeed, IsUnread, Draws, IsOver, IsAtLimit, TakesNothing};
+ghost use Rattle.rep_io.specs.Next.{Advances, AsksWhereDue, Gives, IsOfLine, TakesLine};
+ghost use Rattle.rep_io.specs.Steps.{in_room, AsksOnce, EndsAt, GetsNothing, NeedsMore, StepsTo, work_of, GivesNow, PassesOver};
 
 use crate::cause::Failed;
 use crate::ending::{ended_line, last_line, line_end};
@@ -76,16 +76,17 @@ impl<S: Source> Lines<S> {
         source
     }
 
-    /// What comes next. It asks the source only where no line ends in what was taken, and takes `LONGEST_TEXT` + 1
+    /// What comes next. It asks the source only where nothing can be told of what was taken, and takes `LONGEST_TEXT` + 1
     /// bytes at most.
     ///
-    /// `Next::SourceFault` is the answer only where the source failed in this call. The bytes of the line under way
-    /// are kept then, and a later call goes on from them.
+    /// `Next::SourceFault` is the answer only where the source failed in this call, and no failure is passed over. The
+    /// bytes of the line under way are kept then, and a later call goes on from them.
     pub fn next(&mut self) -> Next
         ensures unread { (text : List ℕ) → IsUnread S.left self.old text
             → Gives S.left self.old self.new result text }
         ensures advances { Advances self.old self.new result }
         ensures draws { Draws S.left self.old self.new }
+        ensures asks { AsksWhereDue S.left self.old self.new result }
         ensures within { self.new.taken ≤ longest_text + 1 }
         ensures cutter { IsCutter S.left self.new }
         ensures over { result ≡ Next.End → IsOver self.new }
@@ -96,14 +97,16 @@ impl<S: Source> Lines<S> {
         ensures later { S.faults self.old.source ≤ S.faults self.new.source }
         ensures source_fault { result ≡ Next.SourceFault
             → Rose (S.faults self.old.source) (S.faults self.new.source) }
+        ensures no_fault { (result ≡ Next.SourceFault → ⊥)
+            → S.faults self.new.source ≡ S.faults self.old.source }
     {
         loop {
             if let Some(next) = self.give() {
                 return next;
             }
-            if self.draw().is_err() {
+            let Ok(()) = self.draw() else {
                 return Next::SourceFault;
-            }
+            };
         }
     }
 
@@ -179,6 +182,8 @@ impl<S: Source> Lines<S> {
     fn draw(&mut self) -> Result<(), Failed>
         requires { NeedsMore self.old }
         ensures steps { StepsTo S.left S.faults self.old self.new }
+        ensures asks { AsksOnce S.left self.old self.new }
+        ensures nothing { OnErr result (GetsNothing self.old self.new) }
         ensures cause { HasCause (S.faults self.old.source) (S.faults self.new.source) result }
         ensures less { OnOk result (work_of self.new < work_of self.old) }
         ensures cutter { IsCutter S.left self.new }

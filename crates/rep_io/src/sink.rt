@@ -11,7 +11,7 @@ pub trait Sink {
     /// them before.
     ghost written: { Self → Option (List ℕ) };
 
-    /// How often the sink has failed: a 64-bit count that never falls.
+    /// How often the sink has failed: a 64-bit count that never falls, and that a call which does not fail leaves as it is.
     ghost faults: { Self → ℕ };
 
     /// Takes a front of the piece, and answers how many bytes: one at least of a piece that isn't empty.

@@ -11,7 +11,7 @@ pub trait Source {
     /// told them before.
     ghost left: { Self → Option (List ℕ) };
 
-    /// How often the source has failed: a 64-bit count that never falls.
+    /// How often the source has failed: a 64-bit count that never falls, and that a call which does not fail leaves as it is.
     ghost faults: { Self → ℕ };
 
     /// Puts bytes that were not read yet into the front of `into`, and answers how many. `Ok(0)` for a buffer with

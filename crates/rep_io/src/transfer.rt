@@ -17,7 +17,8 @@ const READ_SIZE: usize = 65_536;
 ///
 /// # Errors
 ///
-/// `SinkFault` only where the sink failed in this call. Some front of the piece was taken then, and not all of it.
+/// `SinkFault` only where the sink failed in this call, and no failure is passed over. Some front of the piece was
+/// taken then, and not all of it.
 pub fn put_all<K: Sink>(sink: &mut K, piece: &[u8]) -> Result<(), SinkFault>
     ensures bytes { WritesAll (K.written sink.old) (K.written sink.new) result piece.now }
     ensures cause { HasCause (K.faults sink.old) (K.faults sink.new) result }
@@ -58,8 +59,8 @@ impl From<AllocError> for ReadFault {
 ///
 /// # Errors
 ///
-/// `SourceFault` only where the source failed in this call. `InputLimit` where more bytes came than a text may have:
-/// one more was taken then. After each error what was taken is a front of what was left.
+/// `SourceFault` only where the source failed in this call, and no failure is passed over. `InputLimit` where more bytes
+/// came than a text may have: one more was taken then. After each error what was taken is a front of what was left.
 pub fn read_whole<S: Source>(alloc: Global, source: &mut S) -> Result<Vec<u8>, ReadFault>
     ensures whole { IfOk result (λ v. ReadsWhole (S.left source.old) (S.left source.new) v.items) }
     ensures limit { result ≡ Err ReadFault.InputLimit
@@ -69,6 +70,8 @@ pub fn read_whole<S: Source>(alloc: Global, source: &mut S) -> Result<Vec<u8>, R
     ensures later { S.faults source.old ≤ S.faults source.new }
     ensures source_fault { result ≡ Err ReadFault.SourceFault
         → Rose (S.faults source.old) (S.faults source.new) }
+    ensures no_fault { (result ≡ Err ReadFault.SourceFault → ⊥)
+        → S.faults source.new ≡ S.faults source.old }
 {
     let mut buffer = zeros(alloc, READ_SIZE)?;
     let mut bytes = Vec::new(alloc);
@@ -103,6 +106,8 @@ fn read_piece<S: Source>(
     ensures no_limit { result ≡ Err ReadFault.InputLimit → ⊥ }
     ensures source_fault { result ≡ Err ReadFault.SourceFault
         → Rose (S.faults source.old) (S.faults source.new) }
+    ensures no_fault { (result ≡ Err ReadFault.SourceFault → ⊥)
+        → S.faults source.new ≡ S.faults source.old }
 {
     let most = buffer.len().min(LONGEST_TEXT + 1 - bytes.len());
     let free = &mut buffer[..most];

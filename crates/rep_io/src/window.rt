@@ -1,4 +1,4 @@
-ghost use Rattle.std.specs.Prelude.{◌≡◌, ℕ, ◌+◌, ◌<◌, ◌≤◌, List, [], drop, length};
+ghost use Rattle.std.specs.Prelude.{◌≡◌, ℕ, ◌+◌, ◌<◌, ◌≤◌, List, [], drop, length, IfOk};
 ghost use Rattle.rep_io.specs.Causes.{HasCause};
 ghost use Rattle.rep_io.specs.Window.{Fills};
 
@@ -75,6 +75,7 @@ impl Window {
         requires some { 0 < most }
         ensures bytes { Fills most (S.left source.old) (S.left source.new)
             result self.old self.new }
+        ensures piece { IfOk result (λ n. n ≤ WINDOW) }
         ensures cause { HasCause (S.faults source.old) (S.faults source.new) result }
     {
         let held = self.end - self.start;

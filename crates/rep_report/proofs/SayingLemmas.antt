@@ -1,10 +1,11 @@
 -- how the last lines on the output are said one behind the other
-use Rattle.std.proofs.Common.{◌≡◌, ℕ, ◌<◌, ◌≤◌, inl, inr, List, [], length, take, drop, Option, refl, sym, ap, ◌∙◌, append-nil, take-append-drop, arith}
+use Rattle.std.proofs.Common.{◌≡◌, ℕ, ◌+◌, ◌<◌, ◌≤◌, inl, inr, List, [], length, take, drop, Option, refl, sym, ap, ◌∙◌, subst, append-nil, take-append-drop, length-append, arith}
+use Rattle.std.proofs.lemmas.List.{nil_from_length}
 use Rattle.std.specs.Io.KnownBytes.{append_known}
 use Rattle.rep_io.specs.Causes.{Rose}
-use Rattle.rep_report.specs.Saying.{IsStrictFront, YieldsToOutput, SaysLine, SaysCounts, Tells, Concludes, closing_text}
+use Rattle.rep_report.specs.Saying.{IsStrictFront, YieldsToOutput, PutsOrFails, PutsEnding, SaysLine, SaysCounts, Tells, Concludes, closing_text, status_of}
 use Rattle.rep_report.specs.declared.ending.Ending.{Ending}
-use Rattle.rep_report.specs.declared.ending.Ending.TheVariants.{SinkFault}
+use Rattle.rep_report.specs.declared.ending.Ending.TheVariants.{AllAnswered, SomeRefused, SourceFault, SinkFault, DeviceFault, ClockFault, OutOfMemory, InputLimit}
 use Rattle.rep_report.proofs.KnownBytes.{append_known-append, drop_some}
 
 -- a count that rose has risen still, wherever it began lower and ended higher
@@ -33,6 +34,53 @@ says_front line piece n old new Failed is said failed = record {
 -- a front of a line that lacks a byte at least
 pub cut_line : (line piece : List ℕ) (n : ℕ) → piece ≡ line → n < length piece → IsStrictFront (take n piece) line
 cut_line line piece n is less = (drop n piece, drop_some n piece less, sym is ∙ sym (take-append-drop n piece))
+
+-- a text that was put whole, and one that was cut
+pub puts_whole : (text piece : List ℕ) (old new : Option (List ℕ)) (before now : ℕ) → piece ≡ text → new ≡ append_known old piece → now ≡ before
+    → PutsOrFails text old new before now
+puts_whole text piece old new before now is said kept = inl (said ∙ ap (append_known old) is, kept)
+
+pub puts_cut : (text piece : List ℕ) (n : ℕ) (old new : Option (List ℕ)) (before now : ℕ) → piece ≡ text → n < length piece
+    → new ≡ append_known old (take n piece) → Rose before now → PutsOrFails text old new before now
+puts_cut text piece n old new before now is less said rose = inr (take n piece, cut_line text piece n is less, said, rose)
+
+-- nothing has no front that lacks a byte
+puts_nothing : (text : List ℕ) (old new : Option (List ℕ)) (before now : ℕ) → text ≡ [] → PutsOrFails text old new before now → now ≡ before
+puts_nothing text old new before now none (inl whole) = whole.1
+puts_nothing text old new before now none (inr cut) =
+    let rest = cut.1.0 in
+    let short : length cut.0 + length rest ≡ 0 = sym (length-append cut.0 rest) ∙ ap length (sym cut.1.2 ∙ none) in
+    absurd (cut.1.1 (nil_from_length rest (omega arith)))
+
+-- the endings that say nothing behind the counts
+says_no_more : (ending : Ending) → status_of ending ≤ 1 → YieldsToOutput ending × (closing_text ending ≡ [])
+says_no_more AllAnswered low = (tt, refl)
+says_no_more SomeRefused low = (tt, refl)
+says_no_more SourceFault low = absurd (omega arith)
+says_no_more SinkFault low = absurd (omega arith)
+says_no_more DeviceFault low = absurd (omega arith)
+says_no_more ClockFault low = absurd (omega arith)
+says_no_more OutOfMemory low = absurd (omega arith)
+says_no_more InputLimit low = absurd (omega arith)
+
+-- the counts' line was put, and then the line of the ending
+pub puts_ending : (counts line : List ℕ) (old between new : Option (List ℕ)) (before middle now : ℕ) (result : Ending) → line ≡ closing_text result
+    → PutsOrFails counts old between before middle → PutsOrFails line between new middle now
+    → (YieldsToOutput result → (between ≡ append_known old counts) × (middle ≡ before)) → PutsEnding counts old new before now result
+puts_ending counts line old between new before middle now result is first second counted = record {
+  between = between;
+  middle = middle;
+  counts_put = first;
+  closing_put = subst (λ (text : List ℕ). PutsOrFails text between new middle now) is second;
+  counted = counted;
+}
+
+-- the output didn't fail where all was done
+pub answered-kept : (counts : List ℕ) (old new : Option (List ℕ)) (before now : ℕ) (result : Ending) → PutsEnding counts old new before now result
+    → status_of result ≤ 1 → now ≡ before
+answered-kept counts old new before now result puts low =
+    let more = says_no_more result low in
+    puts_nothing (closing_text result) puts.between new puts.middle now more.1 puts.closing_put ∙ (puts.counted more.0).1
 
 -- the counts' line was appended whole
 pub counts_whole : (ending : Ending) (counts piece : List ℕ) (old new : Option (List ℕ)) (Failed : Type 0) → piece ≡ counts

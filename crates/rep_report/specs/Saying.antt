@@ -47,6 +47,12 @@ YieldsToOutput DeviceFault = ⊥
 YieldsToOutput ClockFault = ⊥
 YieldsToOutput InputLimit = ⊥
 
+-- The text was put whole and the output's count of faults is as it was, or the text was cut and the count rose.
+abbrev pub PutsOrFails : List ℕ → Option (List ℕ) → Option (List ℕ) → ℕ → ℕ → Type 0
+PutsOrFails text old new before now =
+    ((new ≡ append_known old text) × (now ≡ before))
+    ⊎ ((put : List ℕ) × IsStrictFront put text × (new ≡ append_known old put) × Rose before now)
+
 -- the line was appended, or where the output failed, a front of it
 pub record SaysLine (line : List ℕ) (old new : Option (List ℕ)) (Failed : Type 0) : Type 0 where
   pub put : List ℕ
@@ -80,3 +86,12 @@ pub record Concludes (ending : Ending) (counts : List ℕ) (old new : Option (Li
   pub put_whole : (Rose before middle → ⊥) → put ≡ counts
   pub closing_whole : (Rose middle now → ⊥) → closing ≡ closing_text result
   pub told : Tells ending put counts (Rose before middle) result
+
+-- The counts' line was put, and then what the ending says: each whole without a fault of the output, or cut at one. The
+-- output didn't fail at the counts of an ending that would have yielded to that.
+pub record PutsEnding (counts : List ℕ) (old new : Option (List ℕ)) (before now : ℕ) (result : Ending) : Type 0 where
+  pub between : Option (List ℕ)
+  pub middle : ℕ
+  pub counts_put : PutsOrFails counts old between before middle
+  pub closing_put : PutsOrFails (closing_text result) between new middle now
+  pub counted : YieldsToOutput result → (between ≡ append_known old counts) × (middle ≡ before)

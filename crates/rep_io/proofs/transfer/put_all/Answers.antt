@@ -10,4 +10,4 @@ loop-put-preserved g c =
     let fits = rw rest at written.0 in
     let within : c.loop-put.put + c.in-Ok.count ≤ length c.args.piece.now =
     omega (arith, c.loop-put.invariant.within, simp length-drop at fits) in
-    HasPut-more _ _ _ _ _ _ c.args.piece.now _ c.loop-put.put c.in-Ok.count c.loop-put.invariant rest within written.2 c.write.ensures.cause.later
+    HasPut-more _ _ _ _ _ _ c.args.piece.now _ c.loop-put.put c.in-Ok.count c.loop-put.invariant rest within written.2 c.in-Ok.ensures.cause.kept
