@@ -2,6 +2,7 @@
 use Rattle.std.proofs.Common.{◌≡◌, ◌≢◌, ℕ, ◌-◌, ◌<◌, List, [], ◌∷◌, ◌++◌, length, take, drop, Option, Some, None, refl, sym, ap, subst, ◌∙◌, append_assoc, append-nil, arith, true, false, Result, Ok, Err, IsErr, is_err, length-drop}
 use Rattle.std.specs.Io.KnownBytes.{append_known}
 use Rattle.std.proofs.lemmas.List.{take-append-drop}
+use Rattle.rep_io.specs.Causes.{HasCause}
 use Rattle.rep_io.specs.Streams.{WritesAll}
 use Rattle.afd_records.specs.File.{ended}
 use Rattle.afd_extract.specs.Steps.{PutsOn, PutsFront, PutsWithin, Puts}
@@ -125,6 +126,10 @@ Puts-more old mid new held kept last first second (Ok v) one two = PutsOn-more o
 Puts-more old mid new held kept last first second (Err e) one two = PutsFront-more old mid new held kept first second one two
 
 -- by the test of an answer
+
+pub HasCause-ok : {T E : Type 0} (before now : ℕ) (result : Result T E) → is_err result ≡ false → HasCause before now result → now ≡ before
+HasCause-ok before now (Ok v) done cause = cause.kept
+HasCause-ok before now (Err e) done cause = absurd cc
 
 pub Puts-err : {E : Type 0} (old new : Option (List ℕ)) (held kept text : List ℕ) (result : Result (Unit {0}) E) → is_err result ≡ true
     → Puts old new held kept text result → PutsFront old new (held ++ text)

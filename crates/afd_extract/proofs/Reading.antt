@@ -57,7 +57,7 @@ IsRead-trans a b c one two = record {
 
 -- a journal that isn't read is as before
 pub IsSame-refl : {D : Type 0} (shown : D → Shown) (a : State D) → IsSame shown false a a
-IsSame-refl shown a = record { frames = refl; spare = refl; faults = refl; disk = IsRead-refl (shown a.disk) }
+IsSame-refl shown a = record { frames = refl; spare = refl; faults = refl; disk = IsRead-refl (shown a.disk); no_fault = λ ok. refl }
 
 -- one reading behind others that didn't fail
 pub IsSame-trans : {D : Type 0} (shown : D → Shown) (failed : Bool) (a b c : State D) → IsSame shown false a b → IsSame shown failed b c → IsSame shown failed a c
@@ -66,4 +66,5 @@ IsSame-trans shown failed a b c one two = record {
   spare = two.spare ∙ one.spare;
   faults = two.faults ∙ ap (λ n. if failed then counted n else n) one.faults;
   disk = IsRead-trans (shown a.disk) (shown b.disk) (shown c.disk) one.disk two.disk;
+  no_fault = λ ok. two.no_fault ok ∙ one.no_fault refl;
 }

@@ -1,5 +1,5 @@
 //! The writer of an AFD.
-ghost use Rattle.std.specs.Prelude.{◌≡◌, ◌<◌, ◌≤◌, Err, List, IsSome, length};
+ghost use Rattle.std.specs.Prelude.{◌≡◌, ◌≢◌, ◌<◌, ◌≤◌, Err, List, IsSome, length};
 ghost use Rattle.rep_io.specs.Causes.{Rose};
 ghost use Rattle.afd_records.specs.File.{HasHeadText};
 ghost use Rattle.afd_records.specs.Record.{last_nsr};
@@ -22,7 +22,7 @@ use rep_journal::Journal;
 ///
 /// # Errors
 ///
-/// `DeviceFault` only where the disk failed in this call, and `SinkFault` only where the sink did. A front of the file stands
+/// `DeviceFault` exactly where the disk failed in this call, and `SinkFault` exactly where the sink did. A front of the file stands
 /// then.
 pub fn write_afd<D: Disk, K: Sink>(
     journal: &mut Journal<D>,
@@ -36,8 +36,10 @@ pub fn write_afd<D: Disk, K: Sink>(
         (K.written sink.old) (K.written sink.new) result }
     ensures journal { IsSame D.shown (failed_by_device result) journal.old journal.new }
     ensures device_fault { result ≡ Err WriteFail.DeviceFault → Rose (D.shown journal.old.disk).faults (D.shown journal.new.disk).faults }
+    ensures no_device_fault { result ≢ Err WriteFail.DeviceFault → (D.shown journal.new.disk).faults ≡ (D.shown journal.old.disk).faults }
     ensures sink_later { K.faults sink.old ≤ K.faults sink.new }
     ensures sink_fault { result ≡ Err WriteFail.SinkFault → Rose (K.faults sink.old) (K.faults sink.new) }
+    ensures no_sink_fault { result ≢ Err WriteFail.SinkFault → K.faults sink.new ≡ K.faults sink.old }
 {
     let mut held = Row::new();
     let size = put_lines(journal, range, head, sink, &mut held)?;
@@ -61,8 +63,10 @@ fn put_lines<D: Disk, K: Sink>(
         (K.written sink.old) (K.written sink.new) held.old held.new result }
     ensures journal { IsSame D.shown (failed_by_device result) journal.old journal.new }
     ensures device_fault { result ≡ Err WriteFail.DeviceFault → Rose (D.shown journal.old.disk).faults (D.shown journal.new.disk).faults }
+    ensures no_device_fault { result ≢ Err WriteFail.DeviceFault → (D.shown journal.new.disk).faults ≡ (D.shown journal.old.disk).faults }
     ensures sink_later { K.faults sink.old ≤ K.faults sink.new }
     ensures sink_fault { result ≡ Err WriteFail.SinkFault → Rose (K.faults sink.old) (K.faults sink.new) }
+    ensures no_sink_fault { result ≢ Err WriteFail.SinkFault → K.faults sink.new ≡ K.faults sink.old }
 {
     if put_head(head, sink, held).is_err() {
         return Err(WriteFail::SinkFault);
@@ -106,8 +110,10 @@ fn put_frames<D: Disk, K: Sink>(
         (K.written sink.old) (K.written sink.new) held.old held.new result }
     ensures journal { IsSame D.shown (failed_frames result) journal.old journal.new }
     ensures device_fault { result ≡ Err WriteFail.DeviceFault → Rose (D.shown journal.old.disk).faults (D.shown journal.new.disk).faults }
+    ensures no_device_fault { result ≢ Err WriteFail.DeviceFault → (D.shown journal.new.disk).faults ≡ (D.shown journal.old.disk).faults }
     ensures sink_later { K.faults sink.old ≤ K.faults sink.new }
     ensures sink_fault { result ≡ Err WriteFail.SinkFault → Rose (K.faults sink.old) (K.faults sink.new) }
+    ensures no_sink_fault { result ≢ Err WriteFail.SinkFault → K.faults sink.new ≡ K.faults sink.old }
 {
     let mut tally = Tally::new();
     let mut place = begin;

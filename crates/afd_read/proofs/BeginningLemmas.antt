@@ -153,6 +153,13 @@ module _ (left left' : Option (List ℕ)) (bytes : List ℕ) (ended : Bool) (fil
   refusal_says InputLimit is text told = absurd is
   refusal_says OutOfMemory is text told = absurd is
 
+  -- the head of those bytes is the text's
+  pub head_told : (head : Head) → IsHeadLine head (first_of (lines_of bytes)) → (text : List ℕ) → left ≡ Some text
+      → IsHeadOf text head
+  head_told head begins text told =
+      let rest = rest_of text told in
+      subst (λ (whole : List ℕ). IsHeadOf whole head) (sym rest.2) (begins_with bytes rest.0 ended head fills.tells rest.3 begins)
+
   -- a fault behind the head
   pub later_says : (left'' : Option (List ℕ)) (head : Head) (fault : AfdFault) → IsHeadLine head (first_of (lines_of bytes))
       → IsNoRefusal fault → (fault ≡ InputLimit → IsPastLimit left' left'' bytes) → (text : List ℕ) → left ≡ Some text
@@ -165,11 +172,7 @@ module _ (left left' : Option (List ℕ)) (bytes : List ℕ) (ended : Bool) (fil
       let more = past refl in
       let known = known_rest more.0 rest.0 left'' (sym more.1 ∙ rest.1) in (
         omega (arith, ap length rest.2, ap length known.2, length-append bytes rest.0, length-append more.0 known.0, length-append bytes more.0, more.2),
-        (
-          head,
-          subst (λ (whole : List ℕ). IsHeadOf whole head) (sym rest.2)
-              (begins_with bytes rest.0 ended head fills.tells rest.3 begins),
-        ),
+        (head, head_told head begins text told),
       )
 
 -- a fault of the outside says nothing

@@ -1,21 +1,22 @@
 -- What was read of a source so far.
-use Rattle.std.proofs.Common.{◌≡◌, inl, inr, Bool, true, false, append_assoc, ℕ, ◌+◌, ◌<◌, ◌≤◌, List, [], ◌++◌, length, refl, sym, ap, ◌∙◌, arith, length-append, append-nil}
+use Rattle.std.proofs.Common.{◌≡◌, ◌≢◌, inl, inr, Bool, true, false, append_assoc, ℕ, ◌+◌, ◌<◌, ◌≤◌, List, [], ◌++◌, length, refl, sym, ap, ◌∙◌, arith, length-append, append-nil}
 use Rattle.std.specs.Prelude.{Option}
 use Rattle.std.specs.Io.KnownBytes.{prepend_known, IsAtEnd}
 use Rattle.std.proofs.KnownBytes.{prepend_known-nil}
 use Rattle.std.proofs.lemmas.Bool.{true≢false}
-use Rattle.rep_io.specs.Lines.{longest_line, longest_text}
+use Rattle.std.proofs.lemmas.List.Elements.{All-nil}
+use Rattle.rep_io.specs.Lines.{line_feed, longest_line, longest_text}
 use Rattle.rep_io.specs.Transfer.{Takes}
 use Rattle.rep_io.proofs.TransferLemmas.{taken-more}
-use Rattle.afd_read.specs.Filling.{piece_size, most_before_refusal, ShowsFirst, AppendsPiece, FillsFirst, FillsRest, IsPastLimit}
+use Rattle.afd_read.specs.Filling.{piece_size, most_before_refusal, ShowsFirst, TellsByLast, IsJudgedEarly, AppendsPiece, FillsFirst, FillsRest, IsPastLimit}
 
--- the bytes were read behind those that were there, a text's at most, and no count fell
+-- the bytes were read behind those that were there, a text's at most, and no read failed
 pub record HasFilled (left left' : Option (List ℕ)) (before faults : ℕ) (old new : List ℕ) : Type 0 where
   pub bytes : List ℕ
   pub appended : new ≡ old ++ bytes
   pub taken : left ≡ prepend_known bytes left'
   pub in_room : length new ≤ longest_text
-  pub later : before ≤ faults
+  pub sound : faults ≡ before
 
 pub HasFilled-none : (left : Option (List ℕ)) (faults : ℕ) (old : List ℕ) → length old ≤ longest_text
     → HasFilled left left faults faults old old
@@ -24,49 +25,69 @@ HasFilled-none left faults old room = record {
   appended = sym (append-nil old);
   taken = sym (prepend_known-nil left);
   in_room = room;
-  later = omega arith;
+  sound = refl;
 }
 
 -- those that were read first are all, no more than one piece behind a line
 pub record HasFirst (left left' : Option (List ℕ)) (before faults : ℕ) (bytes piece : List ℕ) : Type 0 where
   pub taken : left ≡ prepend_known bytes left'
   pub few : length bytes ≤ most_before_refusal
-  pub later : before ≤ faults
+  pub by_last : TellsByLast bytes
+  pub sound : faults ≡ before
   pub size : length piece ≡ piece_size
+
+-- no bytes show no line
+nothing_shown : ShowsFirst [] → ⊥
+nothing_shown (inl feed) = let P : ℕ → Type 0 = λ b. b ≢ line_feed in feed (All-nil P)
+nothing_shown (inr long) = omega arith
 
 pub HasFirst-none : (left : Option (List ℕ)) (faults : ℕ) (bytes piece : List ℕ) → bytes ≡ [] → length piece ≡ piece_size
     → HasFirst left left faults faults bytes piece
 HasFirst-none left faults bytes piece empty size = record {
   taken = rw empty (sym (prepend_known-nil left));
   few = omega (arith, ap length empty);
-  later = omega arith;
+  by_last = record {
+    before = [];
+    last = [];
+    split = empty;
+    untold = nothing_shown;
+    few = omega arith;
+  };
+  sound = refl;
   size = size;
 }
 
 pub HasFirst-more : (left left' left'' : Option (List ℕ)) (before faults later : ℕ) (bytes new piece other : List ℕ) (came : Bool)
     → HasFirst left left' before faults bytes piece → (ShowsFirst bytes → ⊥)
-    → AppendsPiece left' left'' bytes new came → length other ≡ piece_size → faults ≤ later
+    → AppendsPiece left' left'' bytes new came → length other ≡ piece_size → later ≡ faults
     → HasFirst left left'' before later new other
-HasFirst-more left left' left'' before faults later bytes new piece other came so_far unclear more size rises =
+HasFirst-more left left' left'' before faults later bytes new piece other came so_far unclear more size same =
     let short : longest_line + 1 < length bytes → ⊥ = λ long. unclear (inr long) in
     record {
       taken = taken-more left left' left'' bytes more.bytes so_far.taken more.taken
           ∙ ap (λ (all : List ℕ). prepend_known all left'') (sym more.appended);
       few = omega (arith, more.few, ap length more.appended, length-append bytes more.bytes);
-      later = omega (arith, so_far.later, rises);
+      by_last = record {
+        before = bytes;
+        last = more.bytes;
+        split = more.appended;
+        untold = unclear;
+        few = more.few;
+      };
+      sound = same ∙ so_far.sound;
       size = size;
     }
 
 pub HasFilled-more : (left left' left'' : Option (List ℕ)) (before faults later : ℕ) (old bytes new : List ℕ) (came : Bool)
     → HasFilled left left' before faults old bytes → AppendsPiece left' left'' bytes new came → length new ≤ longest_text
-    → faults ≤ later → HasFilled left left'' before later old new
-HasFilled-more left left' left'' before faults later old bytes new came so_far more in_room rises = record {
+    → later ≡ faults → HasFilled left left'' before later old new
+HasFilled-more left left' left'' before faults later old bytes new came so_far more in_room same = record {
   bytes = so_far.bytes ++ more.bytes;
   appended = more.appended ∙ ap (λ (all : List ℕ). all ++ more.bytes) so_far.appended
       ∙ append_assoc old so_far.bytes more.bytes;
   taken = taken-more left left' left'' so_far.bytes more.bytes so_far.taken more.taken;
   in_room = in_room;
-  later = omega (arith, so_far.later, rises);
+  sound = same ∙ so_far.sound;
 }
 
 -- the source had nothing more
@@ -135,6 +156,39 @@ first_shown left left' before faults bytes piece so_far shows = record {
   few = so_far.few;
   at_end = λ yes. absurd (true≢false (sym yes));
 }
+
+-- what was taken where nothing was read, until a line was shown, and where one read more was done before
+pub taken_none : (left : Option (List ℕ)) → IsJudgedEarly left left
+taken_none left = (
+  [],
+  sym (prepend_known-nil left),
+  record {
+    before = [];
+    last = [];
+    split = refl;
+    untold = nothing_shown;
+    few = omega arith;
+  },
+)
+
+pub taken_early : (left left' : Option (List ℕ)) (before faults : ℕ) (bytes piece : List ℕ)
+    → HasFirst left left' before faults bytes piece → IsJudgedEarly left left'
+taken_early left left' before faults bytes piece so_far = (bytes, so_far.taken, so_far.by_last)
+
+pub taken_early-more : (left left' left'' : Option (List ℕ)) (before faults : ℕ) (bytes piece : List ℕ)
+    → HasFirst left left' before faults bytes piece → (ShowsFirst bytes → ⊥)
+    → (n : ℕ) × (n ≤ piece_size) × Takes left' left'' n → IsJudgedEarly left left''
+taken_early-more left left' left'' before faults bytes piece so_far unclear last = (
+  bytes ++ last.2.0,
+  taken-more left left' left'' bytes last.2.0 so_far.taken last.2.2,
+  record {
+    before = bytes;
+    last = last.2.0;
+    split = refl;
+    untold = unclear;
+    few = omega (arith, last.1, last.2.1);
+  },
+)
 
 -- so many bytes were taken behind those that were kept
 pub taken_behind : (left left' : Option (List ℕ)) (len : ℕ) (bytes : List ℕ) → left ≡ prepend_known bytes left'

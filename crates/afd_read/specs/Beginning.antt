@@ -21,6 +21,10 @@ BeginWith head (line ∷ lines) = IsHeadLine head line
 abbrev pub IsHeadOf : List ℕ → Head → Type 0
 IsHeadOf text head = BeginWith head (lines_of text)
 
+-- the text begins with none
+abbrev pub HasNoHead : List ℕ → Type 0
+HasNoHead text = (head : Head) → IsHeadOf text head → ⊥
+
 -- The line is none of a head: it hasn't the type or the length of one, which counts as field 0, or this is the first of
 -- its fields that is off its grammar.
 pub record IsNoHead (line : List ℕ) (field : ℕ) : Type 0 where

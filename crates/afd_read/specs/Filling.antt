@@ -28,6 +28,18 @@ ShowsFirst bytes = (HasNoLineFeed bytes → ⊥) ⊎ (longest_line + 1 < length 
 abbrev pub TellsFirst : Bool → List ℕ → Type 0
 TellsFirst ended bytes = ShowsFirst bytes ⊎ IsTrue ended
 
+-- what one read gave ends these bytes, and without it they don't show the first line
+pub record TellsByLast (bytes : List ℕ) : Type 0 where
+  pub before : List ℕ
+  pub last : List ℕ
+  pub split : bytes ≡ before ++ last
+  pub untold : ShowsFirst before → ⊥
+  pub few : length last ≤ piece_size
+
+-- no more was taken of the source than tells its first line
+abbrev pub IsJudgedEarly : Option (List ℕ) → Option (List ℕ) → Type 0
+IsJudgedEarly left left' = (bytes : List ℕ) × (left ≡ prepend_known bytes left') × TellsByLast bytes
+
 -- what came in one read was appended, one byte more at most than a text may have; nothing came only at the end
 pub record AppendsPiece (left left' : Option (List ℕ)) (old new : List ℕ) (came : Bool) : Type 0 where
   pub bytes : List ℕ

@@ -4,7 +4,7 @@ ghost use Rattle.std.specs.Io.KnownBytes.{IsAtEnd};
 ghost use Rattle.rep_io.specs.Causes.{Rose};
 ghost use Rattle.rep_io.specs.Lines.{longest_text};
 ghost use Rattle.rep_io.specs.Transfer.{Takes};
-ghost use Rattle.afd_read.specs.Filling.{piece_size, ShowsFirst, AppendsPiece, FillsFirst, FillsRest, IsPastLimit, IsOfOutside, IsNoRefusal};
+ghost use Rattle.afd_read.specs.Filling.{piece_size, ShowsFirst, IsJudgedEarly, AppendsPiece, FillsFirst, FillsRest, IsPastLimit, IsOfOutside, IsNoRefusal};
 
 use crate::fault::AfdFault;
 use crate::line_end::line_feed;
@@ -24,10 +24,13 @@ pub(crate) fn fill_first<S: Source>(
     ensures fills { IfOk result (FillsFirst (S.left source.old) (S.left source.new) bytes.new.items) }
     ensures size { length piece.new ≡ piece_size }
     ensures front { (n : ℕ) × (n ≤ longest_text + 1) × Takes (S.left source.old) (S.left source.new) n }
+    ensures early { IsJudgedEarly (S.left source.old) (S.left source.new) }
     ensures outside { IfErr result IsOfOutside }
     ensures later { S.faults source.old ≤ S.faults source.new }
     ensures source_fault { result ≡ Err AfdFault.SourceFault
         → Rose (S.faults source.old) (S.faults source.new) }
+    ensures no_fault { (result ≡ Err AfdFault.SourceFault → ⊥)
+        → S.faults source.new ≡ S.faults source.old }
 {
     while !shows_first(bytes) {
         if !read_piece(source, piece, bytes)? {
@@ -44,7 +47,7 @@ fn shows_first(bytes: &[u8]) -> bool
     bytes.len() > LONGEST_LINE + 1 || line_feed(bytes).is_some()
 }
 
-// Reads all that the source has left, which is nothing where it has ended.
+// Reads all that the source has left. Where it has ended it isn't asked again.
 pub(crate) fn fill_rest<S: Source>(
     source: &mut S,
     piece: &mut [u8],
@@ -64,6 +67,9 @@ pub(crate) fn fill_rest<S: Source>(
     ensures later { S.faults source.old ≤ S.faults source.new }
     ensures source_fault { result ≡ Err AfdFault.SourceFault
         → Rose (S.faults source.old) (S.faults source.new) }
+    ensures no_fault { (result ≡ Err AfdFault.SourceFault → ⊥)
+        → S.faults source.new ≡ S.faults source.old }
+    ensures stays { IsTrue ended → source.new ≡ source.old }
 {
     if ended {
         return Ok(());
@@ -84,6 +90,7 @@ fn read_piece<S: Source>(
 ) -> Result<bool, AfdFault>
     requires room { vec_len bytes.old ≤ longest_text }
     requires size { length piece.old ≡ piece_size }
+    ensures few { (n : ℕ) × (n ≤ piece_size) × Takes (S.left source.old) (S.left source.new) n }
     ensures more { IfOk result (AppendsPiece (S.left source.old) (S.left source.new)
         bytes.old.items bytes.new.items) }
     ensures size { length piece.new ≡ piece_size }
@@ -93,6 +100,8 @@ fn read_piece<S: Source>(
     ensures later { S.faults source.old ≤ S.faults source.new }
     ensures source_fault { result ≡ Err AfdFault.SourceFault
         → Rose (S.faults source.old) (S.faults source.new) }
+    ensures no_fault { (result ≡ Err AfdFault.SourceFault → ⊥)
+        → S.faults source.new ≡ S.faults source.old }
 {
     let most = piece.len().min(LONGEST_TEXT + 1 - bytes.len());
     bytes.reserve(most)?;

@@ -3,8 +3,8 @@ ghost use Rattle.rep_io.specs.Causes.{Rose};
 ghost use Rattle.rep_io.specs.Lines.{lines_of, longest_text};
 ghost use Rattle.rep_io.specs.Transfer.{Takes, ReadsWhole};
 ghost use Rattle.afd_records.specs.declared.header.Head.{Head as TheHead};
-ghost use Rattle.afd_read.specs.Beginning.{IsHeadLine, IsHeadOf, SaysOf};
-ghost use Rattle.afd_read.specs.Filling.{first_of, IsRefusalOf, piece_size, most_before_refusal};
+ghost use Rattle.afd_read.specs.Beginning.{IsHeadLine, IsHeadOf, HasNoHead, SaysOf};
+ghost use Rattle.afd_read.specs.Filling.{first_of, IsJudgedEarly, IsRefusalOf, piece_size, most_before_refusal};
 
 use crate::afd::Afd;
 use crate::fault::AfdFault;
@@ -15,13 +15,14 @@ use afd_records::{Head, read_head};
 use rep_io::Source;
 use std::alloc::{AllocError, Global};
 
-/// Reads all that the source has left as an AFD. Its first line is judged before more is read than that takes.
+/// Reads all that the source has left as an AFD. Its first line is judged before more is read than tells it: of a text
+/// without a head nothing is taken but bytes that don't show the first line, and what one read gives behind them.
 ///
 /// # Errors
 ///
-/// `NotAnAfd` exactly where there is no first line, or it isn't a head. `SourceFault` only where the source failed in
-/// this call. `InputLimit` where the text begins with a head and has more bytes than a text may have: one more was
-/// taken then. After each error what was taken is a front of what was left.
+/// `NotAnAfd` exactly where there is no first line, or it isn't a head. `SourceFault` where the source failed in this
+/// call, and only there: it isn't asked again then. `InputLimit` where the text begins with a head and has more bytes
+/// than a text may have: one more was taken then. After each error what was taken is a front of what was left.
 pub fn read_afd<S: Source>(alloc: Global, source: &mut S) -> Result<Afd, AfdFault>
     ensures whole { IfOk result (ReadsWhole (S.left source.old) (S.left source.new)) }
     ensures begins { IfOk result (λ afd. (head : TheHead) × IsHeadOf afd head) }
@@ -29,6 +30,10 @@ pub fn read_afd<S: Source>(alloc: Global, source: &mut S) -> Result<Afd, AfdFaul
     ensures first_line { (line field : ℕ) → result ≡ Err (AfdFault.NotAnAfd line field) → line ≡ 1 }
     ensures early { (line field : ℕ) → result ≡ Err (AfdFault.NotAnAfd line field)
         → (n : ℕ) × (n ≤ most_before_refusal) × Takes (S.left source.old) (S.left source.new) n }
+    ensures judged_early { (line field : ℕ) → result ≡ Err (AfdFault.NotAnAfd line field)
+        → IsJudgedEarly (S.left source.old) (S.left source.new) }
+    ensures no_further { (text : List ℕ) → S.left source.old ≡ Some text → HasNoHead text
+        → IsJudgedEarly (S.left source.old) (S.left source.new) }
     ensures limit { result ≡ Err AfdFault.InputLimit
         → Takes (S.left source.old) (S.left source.new) (longest_text + 1) }
     ensures front { (n : ℕ) × (n ≤ longest_text + 1)
@@ -36,6 +41,8 @@ pub fn read_afd<S: Source>(alloc: Global, source: &mut S) -> Result<Afd, AfdFaul
     ensures later { S.faults source.old ≤ S.faults source.new }
     ensures source_fault { result ≡ Err AfdFault.SourceFault
         → Rose (S.faults source.old) (S.faults source.new) }
+    ensures no_fault { (result ≡ Err AfdFault.SourceFault → ⊥)
+        → S.faults source.new ≡ S.faults source.old }
 {
     let mut piece = piece(alloc)?;
     let mut bytes = Vec::new(alloc);

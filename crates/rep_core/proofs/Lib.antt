@@ -7,6 +7,7 @@ pub mod Lines
 pub mod Payloads
 pub mod Hashes
 pub mod HashTexts
+pub mod Receipts
 pub mod Standing
 pub mod Validity
 pub mod Pairs

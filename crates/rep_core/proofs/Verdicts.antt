@@ -1,11 +1,14 @@
 -- Verdicts over a history.
-use Rattle.std.proofs.Common.{◌≡◌, ℕ, suc, ◌≤◌, List, [], ◌∷◌, length, Some, None, refl, sym, ap, subst, arith, length-append}
+use Rattle.std.proofs.Common.{◌≡◌, ℕ, suc, ◌≤◌, List, [], ◌∷◌, length, Option, Some, None, refl, sym, ap, subst, arith, length-append}
 use Rattle.rep_fields.specs.Moment.{Moment}
 use Rattle.rep_wire.specs.Made.{made_of, IsSame}
 use Rattle.rep_wire.specs.declared.request.Ask.{Ask}
 use Rattle.rep_wire.specs.declared.request.Ask.TheVariants.{Mark, Employer, Worker, Adjust, Event}
 use Rattle.rep_wire.specs.declared.request.Request.{Request}
-use Rattle.rep_core.specs.Verdict.{IsVerdict}
+use Rattle.rep_wire.specs.declared.request.Entry.{Entry}
+use Rattle.rep_core.specs.History.{IsFound}
+use Rattle.rep_core.specs.Lookup.{KeepsPair}
+use Rattle.rep_core.specs.Verdict.{IsVerdict, IsVerdictBy}
 use Rattle.rep_core.specs.Answered.{entry_of, recorded_after}
 use Rattle.rep_core.specs.declared.verdict.Verdict.{Verdict}
 use Rattle.rep_core.specs.declared.verdict.Verdict.TheVariants.{Repeat, Conflict, Unregistered, Exhausted, Fresh}
@@ -72,3 +75,16 @@ repeat_after limit later h after q now fresh same =
     let number : suc (length h) ≡ length after = omega (arith, ap length same, length-append h (entry_of q now ∷ [])) in
     subst (λ n. IsVerdict later after q (Repeat n)) number
     (subst (λ xs. IsVerdict later xs q (Repeat (suc (length h)))) (sym same) (repeat_of_recorded limit later h q now fresh))
+
+-- the verdict by the entry that came by the pair is the verdict
+pub exact_by : (kept : Option Entry) (limit : ℕ) (h : List Entry) (q : Request) (v : Verdict) → KeepsPair q.origin q.seq h kept → IsVerdictBy kept limit h q v → IsVerdict limit h q v
+exact_by None limit h q v came by = by
+exact_by (Some e) limit h q (Repeat nsr) came by =
+    let same = IsFound-unique q.origin q.seq h came.0 nsr e by.0.0 came.1 by.0.1 in
+    (e, subst (λ n. IsFound q.origin q.seq h n e) same.0 came.1, by.1)
+exact_by (Some e) limit h q (Conflict nsr) came by =
+    let same = IsFound-unique q.origin q.seq h came.0 nsr e by.0.0 came.1 by.0.1 in
+    (e, subst (λ n. IsFound q.origin q.seq h n e) same.0 came.1, by.1)
+exact_by (Some e) limit h q Unregistered came by = absurd by
+exact_by (Some e) limit h q Exhausted came by = absurd by
+exact_by (Some e) limit h q Fresh came by = absurd by

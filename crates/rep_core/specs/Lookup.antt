@@ -15,6 +15,11 @@ abbrev pub KeepsPair : ℕ → ℕ → List Entry → Option Entry → Type 0
 KeepsPair origin seq h None = IsNew origin seq h
 KeepsPair origin seq h (Some e) = (nsr : ℕ) × IsFound origin seq h nsr e
 
+-- some entry was read exactly where one came by the pair
+abbrev pub KeepsWhere : ℕ → ℕ → List Entry → Option Entry → Type 0
+KeepsWhere origin seq h None = IsNew origin seq h
+KeepsWhere origin seq h (Some e) = IsNew origin seq h → ⊥
+
 -- the number of the last employer record, or that there is none
 abbrev pub FindsEmployer : List Entry → Option ℕ → Type 0
 FindsEmployer h None = All (λ d. IsEmployer d.body → ⊥) h

@@ -11,6 +11,7 @@ use Rattle.rep_wire.specs.declared.request.Ask.TheVariants.{Mark, Employer, Work
 use Rattle.rep_wire.specs.declared.request.Request.{Request}
 use Rattle.rep_wire.specs.declared.request.Entry.{Entry}
 use Rattle.rep_core.specs.History.{IsFound, IsNew, last_worker}
+use Rattle.rep_core.specs.Lookup.{FindsPair}
 use Rattle.rep_core.specs.declared.verdict.WorkerState.{WorkerState}
 use Rattle.rep_core.specs.declared.verdict.Verdict.{Verdict}
 use Rattle.rep_core.specs.declared.verdict.Verdict.TheVariants.{Repeat, Conflict, Unregistered, Exhausted, Fresh}
@@ -53,3 +54,13 @@ IsVerdict limit h q (Conflict nsr) = (e : Entry) × IsFound q.origin q.seq h nsr
 IsVerdict limit h q Unregistered = IsNew q.origin q.seq h × (HasWorker h q.ask → ⊥)
 IsVerdict limit h q Exhausted = IsNew q.origin q.seq h × HasWorker h q.ask × (limit ≤ length h)
 IsVerdict limit h q Fresh = IsNew q.origin q.seq h × HasWorker h q.ask × (length h < limit)
+
+-- The verdict by the entry that was read for the request's pair, which alone tells whether the content is the same. The
+-- number is that of the pair.
+abbrev pub IsVerdictBy : Option Entry → ℕ → List Entry → Request → Verdict → Type 0
+IsVerdictBy None limit h q verdict = IsVerdict limit h q verdict
+IsVerdictBy (Some e) limit h q (Repeat nsr) = FindsPair q.origin q.seq h (Some nsr) × IsSame q.ask e.body
+IsVerdictBy (Some e) limit h q (Conflict nsr) = FindsPair q.origin q.seq h (Some nsr) × (IsSame q.ask e.body → ⊥)
+IsVerdictBy (Some e) limit h q Unregistered = ⊥
+IsVerdictBy (Some e) limit h q Exhausted = ⊥
+IsVerdictBy (Some e) limit h q Fresh = ⊥

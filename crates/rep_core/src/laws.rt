@@ -2,13 +2,14 @@
 ghost use Rattle.std.specs.Prelude.{◌≡◌, ℕ, ◌+◌, ◌≤◌, List, [], ◌∷◌, ◌++◌, length};
 ghost use Rattle.rep_fields.specs.Moment.{Moment, IsMoment};
 ghost use Rattle.afd_records.specs.Record.{last_nsr};
+ghost use Rattle.afd_records.specs.declared.record.Body.{Body};
 ghost use Rattle.rep_wire.specs.Request.{IsRequest, IsFounding};
 ghost use Rattle.rep_wire.specs.declared.request.Request.{Request};
 ghost use Rattle.rep_wire.specs.declared.request.Entry.{Entry};
 ghost use Rattle.rep_core.specs.Chained.{next_line, history_lines};
 ghost use Rattle.rep_core.specs.Links.{IsChained, HasLines};
 ghost use Rattle.rep_core.specs.Verdict.{IsVerdict};
-ghost use Rattle.rep_core.specs.Answered.{entry_of, recorded_after};
+ghost use Rattle.rep_core.specs.Answered.{entry_of, recorded_after, slip_of};
 ghost use Rattle.rep_core.specs.Valid.{Fits, IsValid, IsFounded};
 ghost use Rattle.rep_core.specs.Core.{Kept, Stands};
 ghost use Rattle.rep_core.specs.declared.verdict.Verdict.{Verdict};
@@ -68,6 +69,12 @@ pub fn recording_keeps_a_history_founded()
     ensures first { (q : Request) (now : Moment) → IsFounding q → IsMoment now
         → IsFounded (recorded_after [] q now) }
     ensures more { (h : List Entry) (e : Entry) → IsFounded h → Fits h e → IsFounded (h ++ e ∷ []) }
+{}
+
+/// A receipt stays the same as the history grows.
+pub fn a_receipt_stays_as_the_history_grows()
+    ensures { (h more : List Entry) (nsr : ℕ) (body : Body) → nsr ≤ length h
+        → slip_of (h ++ more) nsr body ≡ slip_of h nsr body }
 {}
 
 /// A core stands for one history.

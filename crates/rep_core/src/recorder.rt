@@ -55,10 +55,10 @@ impl Model for Core {
 impl Core {
     ghost use Rattle.rep_core.specs.Core.{Kept, Stands, IsLimit, IsReady, room_of};
     ghost use Rattle.rep_core.specs.History.{IsNumbered, IsNew, last_worker};
-    ghost use Rattle.rep_core.specs.Lookup.{FindsPair, KeepsPair, FindsEmployer};
+    ghost use Rattle.rep_core.specs.Lookup.{FindsPair, KeepsPair, KeepsWhere, FindsEmployer};
     ghost use Rattle.rep_wire.specs.Made.{made_of};
     ghost use Rattle.rep_core.specs.Chained.{last_hash, history_lines};
-    ghost use Rattle.rep_core.specs.Verdict.{IsVerdict, HasWorker};
+    ghost use Rattle.rep_core.specs.Verdict.{IsVerdict, IsVerdictBy, HasWorker};
     ghost use Rattle.rep_core.specs.Answered.{recorded_after, slip_of, IsReply};
 
     /// A core that stands for the empty history, and whose numbers end with `last_nsr`, from 1 to 999,999,999. It
@@ -141,6 +141,8 @@ impl Core {
     pub fn kept(&self, q: &Request) -> Option<&Entry>
         ensures came { (h : List Entry) → Stands self.now h
             → KeepsPair q.now.origin q.now.seq h (option_copied result) }
+        ensures there { (h : List Entry) → Stands self.now h
+            → KeepsWhere q.now.origin q.now.seq h (option_copied result) }
         ensures text { IfSome (option_copied result) (λ e. HasText e.body) }
     {
         let Some(nsr) = self.find(q.origin, q.seq) else {
@@ -149,12 +151,16 @@ impl Core {
         Some(self.entry(nsr))
     }
 
-    /// What the recorder makes of a request. `kept` is the entry whose number `find` gives for the request's pair, and
-    /// `None` where it gives none.
+    /// What the recorder makes of a request. `kept` is there exactly where `find` gives a number for the request's pair.
+    /// The verdict is exact where it is the entry with that number, as it was recorded.
     pub fn decide(&self, q: &Request, kept: Option<&Entry>) -> Verdict
         requires { (h : List Entry) → Stands self.now h
-            → KeepsPair q.now.origin q.now.seq h (option_copied kept) }
-        ensures { (h : List Entry) → Stands self.now h → IsVerdict self.now.limit h q.now result }
+            → KeepsWhere q.now.origin q.now.seq h (option_copied kept) }
+        ensures judged { (h : List Entry) → Stands self.now h
+            → IsVerdictBy (option_copied kept.entry) self.now.limit h q.now result }
+        ensures exact { (h : List Entry) → Stands self.now h
+            → KeepsPair q.now.origin q.now.seq h (option_copied kept.entry)
+            → IsVerdict self.now.limit h q.now result }
     {
         match kept {
             Some(entry) => self.decide_again(q, entry),
@@ -162,20 +168,20 @@ impl Core {
         }
     }
 
-    // The verdict where an entry came by the request's pair.
+    // The verdict where an entry came by the request's pair, by the entry that was read.
     fn decide_again(&self, q: &Request, kept: &Entry) -> Verdict
         requires { (h : List Entry) → Stands self.now h
-            → KeepsPair q.now.origin q.now.seq h (Some kept.now) }
-        ensures { (h : List Entry) → Stands self.now h → IsVerdict self.now.limit h q.now result }
+            → KeepsWhere q.now.origin q.now.seq h (Some kept.now) }
+        ensures { (h : List Entry) → Stands self.now h
+            → IsVerdictBy (Some kept.now) self.now.limit h q.now result }
     {
         let Some(nsr) = self.find(q.origin, q.seq) else {
             unreachable!();
         };
         if same(q, kept) {
-            Verdict::Repeat { nsr }
-        } else {
-            Verdict::Conflict { nsr }
+            return Verdict::Repeat { nsr };
         }
+        Verdict::Conflict { nsr }
     }
 
     // The verdict where no entry came by the request's pair.

@@ -1,5 +1,6 @@
 mod BlankLemmas
 mod FormatLemmas
+mod GateLemmas
 mod HeadLemmas
 pub mod KindLemmas
 mod ListLemmas
@@ -8,4 +9,5 @@ mod OutcomeLemmas
 mod PutLemmas
 mod ReadLemmas
 mod ScanLemmas
+mod SureLemmas
 pub mod UniqueLemmas

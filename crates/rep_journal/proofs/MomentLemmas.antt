@@ -1,6 +1,6 @@
 -- The images at each moment of a `put`.
 use Rattle.std.proofs.Common.{◌≡◌, inl, inr, ℕ, ◌+◌, ◌<◌, ◌≤◌, List, [], ◌∷◌, ◌++◌, length, Some, None, Option, sym, ap, subst, arith, length-append}
-use Rattle.std.specs.Prelude.{IfSome, IsSome}
+use Rattle.std.specs.Prelude.{◌↔◌, IfSome, IsSome}
 use Rattle.std.proofs.lemmas.Bool.{cases_lt}
 use Rattle.rep_disk.specs.Disk.{Shown, Torn, Moves, Moved, KeepsPast, IsAtRest, last_moment}
 use Rattle.rep_journal.specs.Format.{Framed, end_of, IsJournalOf}
@@ -10,13 +10,13 @@ use Rattle.rep_journal.proofs.KindLemmas.{one_journal, kept_not_blank}
 use Rattle.rep_journal.proofs.PutLemmas.{IsStaged, torn_behind, torn_gate}
 
 -- what is told of the contents holds of an image that equals them
-told_of : (contents : Option (List ℕ)) (P : List ℕ → Type 0) (image : List ℕ) → IsSome contents → IfSome contents P → IfSome contents (λ bytes. image ≡ bytes) → P image
-told_of None P image told p is = absurd (cc)
-told_of (Some bytes) P image told p is = subst P (sym is) p
+told_of : (contents : Option (List ℕ)) (P : List ℕ → Type 0) (Leaves : Type 0) (image : List ℕ) → IsSome contents → IfSome contents P → IfSome contents (λ bytes. Leaves ↔ image ≡ bytes) → Leaves → P image
+told_of None P Leaves image told p is leaves = absurd (cc)
+told_of (Some bytes) P Leaves image told p is leaves = subst P (sym (is.0 leaves)) p
 
 -- at rest, each image is as the contents
 pub rest_has : (s : Shown) (P : List ℕ → Type 0) → IsSome s.contents → IfSome s.contents P → IsAtRest s → s.moment < last_moment → (image : List ℕ) → s.may_leave s.moment image → P image
-rest_has s P told p rest before image leaves = told_of s.contents P image told p (rest before image leaves)
+rest_has s P told p rest before image leaves = told_of s.contents P (s.may_leave s.moment image) image told p (rest before image) leaves
 
 -- a step that takes each image as at rest to one that has Q, from the old moment on
 pub moved_has : (step : List ℕ → List ℕ → Type 0) (P Q : List ℕ → Type 0) (old new : Shown) → IsSome old.contents → IfSome old.contents P → IsAtRest old → Moved step old new → old.moment ≤ new.moment → new.moment < last_moment

@@ -1,11 +1,11 @@
 -- What the two writes of a `put` make of contents and images.
-use Rattle.std.proofs.Common.{◌≡◌, ◌≢◌, inl, inr, ℕ, ◌+◌, ◌<◌, ◌≤◌, List, [], ◌∷◌, ◌++◌, length, take, drop, get_or, Some, None, Option, Ok, Err, Result, true, ◌*◌, refl, sym, ap, ◌∙◌, arith, append_assoc, length-append, take-append-drop}
-use Rattle.std.specs.Prelude.{IfSome, IsSome, OnErr, OnOk, is_err}
+use Rattle.std.proofs.Common.{◌≡◌, ◌≢◌, inl, inr, ℕ, ◌+◌, ◌<◌, ◌≤◌, List, [], ◌∷◌, ◌++◌, length, take, drop, get_or, Some, None, Option, Ok, Err, Result, true, ◌*◌, refl, sym, ap, ◌∙◌, subst, arith, append_assoc, length-append, length-drop, length-take, take-append-drop}
+use Rattle.std.specs.Prelude.{IfSome, IsSome, MatchResult, OnErr, OnOk, is_err}
 use Rattle.std.proofs.lemmas.List.{take_at, drop_at, drop_more}
 use Rattle.std.proofs.lemmas.Bool.{cases_eq}
 use Rattle.rep_disk.specs.Disk.{Shown, Torn, Written, Changes, IsWithin}
 use Rattle.rep_journal.specs.Format.{open_gate, closed_gate, Framed, IsFrame, AreFrames, frame_text, front_text, end_of, IsJournalOf}
-use Rattle.rep_journal.specs.State.{StandsFor, Becomes, Leaves, IsWithOrWithout, IsLeftAt, FailsToAppend, MakesCalls, CountsCalls}
+use Rattle.rep_journal.specs.State.{StandsFor, Becomes, Leaves, IsWithOrWithout, IsLeftAt, IsLeftAround, FailsToAppend, MakesCalls, CountsCalls, with_gate}
 use Rattle.rep_journal.specs.Putting.{FailsToWrite, WritesSurely}
 use Rattle.rep_journal.proofs.KindLemmas.{journal_length}
 use Rattle.rep_journal.proofs.FormatLemmas.{length-front_text, end_of-push, front_text-push, are_frames-push}
@@ -18,6 +18,21 @@ front_of old new p q n e l same =
 -- a list that is long enough, piece by piece
 cons_of : (xs : List ℕ) (n : ℕ) → n < length xs → drop n xs ≡ get_or xs n 0 ∷ drop (n + 1) xs
 cons_of xs n lt = drop_more xs n 0 lt
+
+-- a piece that was written is one of the outcomes that a crash may leave of its write
+written_torn : (at : ℕ) (piece old new : List ℕ) → at ≤ length old → Written at piece old new → Torn at (length piece) old new
+written_torn at piece old new within w =
+    let rest = drop (at + length piece) old in
+    let front : length (take at old) ≡ at = omega (arith, length-take at old) in
+    let both : length (take at old ++ piece) ≡ at + length piece = omega (arith, length-append (take at old) piece) in
+    let size : length new ≡ at + length piece + length rest = omega (arith, ap length w, length-append (take at old ++ piece) rest) in
+    let left = length-drop (at + length piece) old in
+    record {
+      before = ap (λ (l : List ℕ). take at l) (w ∙ append_assoc (take at old) piece rest) ∙ take_at (take at old) (piece ++ rest) at front;
+      behind = ap (λ (l : List ℕ). drop (at + length piece) l) w ∙ drop_at (take at old ++ piece) rest (at + length piece) both;
+      no_shorter = omega (arith, left);
+      no_longer = omega (arith, left);
+    }
 
 -- the frame stands behind the closed gate
 pub record IsStaged (bytes : List ℕ) (frames : List Framed) (frame : Framed) : Type 0 where
@@ -78,28 +93,49 @@ module _ (fs : List Framed) where
         text = e ∙ sym (append_assoc (front_text fs) (open_gate ∷ frame_text f) (0 ∷ rest)) ∙ ap (λ (l : List ℕ). l ++ 0 ∷ rest) (sym (front_text-push fs f));
       }
 
+  -- with one byte more behind the frames
+  gate_before : (gate n : ℕ) (rest : List ℕ) → n ≡ end_of fs → take n (front_text fs ++ gate ∷ rest) ≡ front_text fs
+  gate_before gate n rest is = take_at (front_text fs) (gate ∷ rest) n (length-front_text fs ∙ sym is)
+
+  gate_behind : (gate : ℕ) (rest : List ℕ) → drop (end_of fs + 1) (front_text fs ++ gate ∷ rest) ≡ rest
+  gate_behind gate rest =
+      ap (λ (l : List ℕ). drop (end_of fs + 1) l) (sym (append_assoc (front_text fs) (gate ∷ []) rest))
+      ∙ drop_at (front_text fs ++ gate ∷ []) rest (end_of fs + 1) (omega (arith, length-append (front_text fs) (gate ∷ []), length-front_text fs))
+
+  -- a torn gate leaves some byte in its place, and all else
+  pub torn_text : (gate : ℕ) (rest old new : List ℕ) → old ≡ front_text fs ++ gate ∷ rest → Torn (end_of fs) 1 old new → new ≡ front_text fs ++ get_or new (end_of fs) 0 ∷ rest
+  torn_text gate rest old new is torn =
+      let behind : drop (end_of fs + 1) new ≡ rest = torn.behind ∙ ap (λ (l : List ℕ). drop (end_of fs + 1) l) is ∙ gate_behind gate rest in
+      let long : end_of fs < length new = omega (arith, torn.no_shorter, ap length is, length-append (front_text fs) (gate ∷ rest), length-front_text fs) in
+      front_of old new (front_text fs) (gate ∷ rest) (end_of fs) is (length-front_text fs) torn.before
+      ∙ ap (λ (l : List ℕ). front_text fs ++ l) (cons_of new (end_of fs) long ∙ ap (λ (l : List ℕ). get_or new (end_of fs) 0 ∷ l) behind)
+
+  -- and it may leave any
+  pub gate_torn : (gate other : ℕ) (rest : List ℕ) → Torn (end_of fs) 1 (front_text fs ++ gate ∷ rest) (front_text fs ++ other ∷ rest)
+  gate_torn gate other rest =
+      let size : length (front_text fs ++ other ∷ rest) ≡ length (front_text fs ++ gate ∷ rest) = omega (arith, length-append (front_text fs) (gate ∷ rest), length-append (front_text fs) (other ∷ rest)) in
+      record {
+        before = gate_before other (end_of fs) rest refl ∙ sym (gate_before gate (end_of fs) rest refl);
+        behind = gate_behind other rest ∙ sym (gate_behind gate rest);
+        no_shorter = omega arith;
+        no_longer = omega arith;
+      }
+
   pub torn_gate : (f : Framed) (old new : List ℕ) → IsStaged old fs f → Torn (end_of fs) 1 old new → IsWithOrWithout fs f new
-  torn_gate f old new s torn =
-      let behind : drop (end_of fs + 1) new ≡ frame_text f ++ 0 ∷ s.rest =
-      torn.behind ∙ ap (λ (l : List ℕ). drop (end_of fs + 1) l) (s.text ∙ sym (append_assoc (front_text fs) (s.gate ∷ []) (frame_text f ++ 0 ∷ s.rest)))
-      ∙ drop_at (front_text fs ++ s.gate ∷ []) (frame_text f ++ 0 ∷ s.rest) (end_of fs + 1) (omega (arith, length-append (front_text fs) (s.gate ∷ []), length-front_text fs)) in
-      let long : end_of fs < length new = omega (arith, torn.no_shorter, ap length s.text, length-append (front_text fs) (s.gate ∷ (frame_text f ++ 0 ∷ s.rest)), length-front_text fs) in
-      let whole : new ≡ front_text fs ++ get_or new (end_of fs) 0 ∷ (frame_text f ++ 0 ∷ s.rest) =
-      front_of old new (front_text fs) (s.gate ∷ (frame_text f ++ 0 ∷ s.rest)) (end_of fs) s.text (length-front_text fs) torn.before
-      ∙ ap (λ (l : List ℕ). front_text fs ++ l) (cons_of new (end_of fs) long ∙ ap (λ (l : List ℕ). get_or new (end_of fs) 0 ∷ l) behind) in
-      opened_or_not f new s.rest (get_or new (end_of fs) 0) s.well_formed s.fits whole
+  torn_gate f old new s torn = opened_or_not f new s.rest (get_or new (end_of fs) 0) s.well_formed s.fits (torn_text s.gate (frame_text f ++ 0 ∷ s.rest) old new s.text torn)
+
+  -- the text after a write of a gate
+  gate_text : (gate byte : ℕ) (rest old new : List ℕ) → old ≡ front_text fs ++ gate ∷ rest → Written (end_of fs) (byte ∷ []) old new → new ≡ front_text fs ++ byte ∷ rest
+  gate_text gate byte rest old new is w =
+      w
+      ∙ ap (λ (l : List ℕ). l ++ (byte ∷ []) ++ drop (end_of fs + 1) old) (ap (λ (l : List ℕ). take (end_of fs) l) is ∙ gate_before gate (end_of fs) rest refl)
+      ∙ append_assoc (front_text fs) (byte ∷ []) (drop (end_of fs + 1) old)
+      ∙ ap (λ (l : List ℕ). front_text fs ++ byte ∷ l) (ap (λ (l : List ℕ). drop (end_of fs + 1) l) is ∙ gate_behind gate rest)
 
   -- the text after the second write
   opened_text : (f : Framed) (gate : ℕ) (rest old new : List ℕ) → old ≡ front_text fs ++ gate ∷ (frame_text f ++ 0 ∷ rest) → Written (end_of fs) (open_gate ∷ []) old new → new ≡ front_text (fs ++ f ∷ []) ++ 0 ∷ rest
   opened_text f gate rest old new is w =
-      let before = ap (λ (l : List ℕ). take (end_of fs) l) is ∙ take_at (front_text fs) (gate ∷ (frame_text f ++ 0 ∷ rest)) (end_of fs) (length-front_text fs) in
-      let behind : drop (end_of fs + 1) old ≡ frame_text f ++ 0 ∷ rest =
-      ap (λ (l : List ℕ). drop (end_of fs + 1) l) (is ∙ sym (append_assoc (front_text fs) (gate ∷ []) (frame_text f ++ 0 ∷ rest)))
-      ∙ drop_at (front_text fs ++ gate ∷ []) (frame_text f ++ 0 ∷ rest) (end_of fs + 1) (omega (arith, length-append (front_text fs) (gate ∷ []), length-front_text fs)) in
-      w
-      ∙ ap (λ (l : List ℕ). l ++ (open_gate ∷ []) ++ drop (end_of fs + 1) old) before
-      ∙ append_assoc (front_text fs) (open_gate ∷ []) (drop (end_of fs + 1) old)
-      ∙ ap (λ (l : List ℕ). front_text fs ++ open_gate ∷ l) behind
+      gate_text gate open_gate (frame_text f ++ 0 ∷ rest) old new is w
       ∙ sym (append_assoc (front_text fs) (open_gate ∷ frame_text f) (0 ∷ rest))
       ∙ ap (λ (l : List ℕ). l ++ 0 ∷ rest) (sym (front_text-push fs f))
 
@@ -112,12 +148,43 @@ module _ (fs : List Framed) where
     text = opened_text f s.gate s.rest old new s.text w;
   }
 
+  -- the place behind the next gate
+  behind_next : (f : Framed) → end_of fs + 1 + length (frame_text f ++ 0 ∷ []) ≡ 1 + end_of (fs ++ f ∷ [])
+  behind_next f = omega (arith, end_of-push fs f, length-append (frame_text f) (0 ∷ []))
+
   -- the text after both
   pub put_text : (f : Framed) (old mid new : List ℕ) → IsJournalOf old fs → Written (end_of fs + 1) (frame_text f ++ 0 ∷ []) old mid → Written (end_of fs) (open_gate ∷ []) mid new
       → new ≡ front_text (fs ++ f ∷ []) ++ closed_gate ∷ drop (1 + end_of (fs ++ f ∷ [])) old
   put_text f old mid new j w v =
       opened_text f j.gate (drop (end_of fs + 1 + length (frame_text f ++ 0 ∷ [])) old) mid new (written_text f old mid j w) v
-      ∙ ap (λ (n : ℕ). front_text (fs ++ f ∷ []) ++ 0 ∷ drop n old) (omega (arith, end_of-push fs f, length-append (frame_text f) (0 ∷ [])))
+      ∙ ap (λ (n : ℕ). front_text (fs ++ f ∷ []) ++ 0 ∷ drop n old) (behind_next f)
+
+  -- the same texts by the gate in front of the frame
+  pub staged_text : (f : Framed) (old new : List ℕ) (j : IsJournalOf old fs) → Written (end_of fs + 1) (frame_text f ++ 0 ∷ []) old new → new ≡ with_gate fs f j.gate old
+  staged_text f old new j w = written_text f old new j w ∙ ap (λ (n : ℕ). front_text fs ++ j.gate ∷ (frame_text f ++ 0 ∷ drop n old)) (behind_next f)
+
+  pub torn_with_gate : (f : Framed) (gate : ℕ) (was old new : List ℕ) → old ≡ with_gate fs f gate was → Torn (end_of fs) 1 old new → (other : ℕ) × (new ≡ with_gate fs f other was)
+  torn_with_gate f gate was old new is torn = (get_or new (end_of fs) 0, torn_text gate (frame_text f ++ 0 ∷ drop (1 + end_of (fs ++ f ∷ [])) was) old new is torn)
+
+  pub opened_with_gate : (f : Framed) (gate : ℕ) (was old new : List ℕ) → old ≡ with_gate fs f gate was → Written (end_of fs) (open_gate ∷ []) old new → new ≡ with_gate fs f open_gate was
+  opened_with_gate f gate was old new is w = gate_text gate open_gate (frame_text f ++ 0 ∷ drop (1 + end_of (fs ++ f ∷ [])) was) old new is w
+
+  -- what the first write leaves where it or its sync failed
+  pub torn_around : (f : Framed) (old new : List ℕ) → Torn (end_of fs + 1) (length (frame_text f ++ 0 ∷ [])) old new → IsLeftAround 1 fs f old new
+  torn_around f old new torn = record {
+    early = λ _. subst (λ (n : ℕ). Torn (end_of fs + 1) n old new) (length-append (frame_text f) (0 ∷ [])) torn;
+    at_gate = λ le. absurd (omega arith);
+    late = λ e. absurd (omega arith);
+  }
+
+  pub written_around : (f : Framed) (old new : List ℕ) → IsJournalOf old fs → Written (end_of fs + 1) (frame_text f ++ 0 ∷ []) old new → IsLeftAround 2 fs f old new
+  written_around f old new j w =
+      let within : end_of fs + 1 ≤ length old = (let h = journal_length old fs j in omega arith) in
+      record {
+        early = λ _. subst (λ (n : ℕ). Torn (end_of fs + 1) n old new) (length-append (frame_text f) (0 ∷ [])) (written_torn (end_of fs + 1) (frame_text f ++ 0 ∷ []) old new within w);
+        at_gate = λ le. absurd (omega arith);
+        late = λ e. absurd (omega arith);
+      }
 
   -- the frame behind the closed gate doesn't count
   pub still_frames : (f : Framed) (bytes : List ℕ) → IsStaged bytes fs f → IsJournalOf bytes fs
@@ -145,6 +212,10 @@ pub ok_none : {T E : Type 0} (result : Result T E) (P : Type 0) → is_err resul
 ok_none (Ok v) P is = absurd (cc)
 ok_none (Err e) P is = tt
 
+pub err_match : {T E : Type 0} (result : Result T E) (P Q : Type 0) → is_err result ≡ true → Q → MatchResult result (λ _. P) (λ _. Q)
+err_match (Ok v) P Q is q = absurd (cc)
+err_match (Err e) P Q is q = q
+
 pub err_only : {T E : Type 0} (result : Result T E) (P : Type 0) → P → OnErr result P
 err_only (Ok v) P p = tt
 err_only (Err e) P p = p
@@ -164,6 +235,8 @@ module _ (fs : List Framed) (f : Framed) (fits : IsFrame f) where
     calls = torn.0;
     contents = changes_to (λ b. IsJournalOf b fs) (Torn (end_of fs + 1) (length (frame_text f ++ 0 ∷ []))) (λ _ bytes. IsLeftAt 1 fs f bytes) old.contents new.contents stands
         (λ a b j t. let k = torn_behind fs (length (frame_text f ++ 0 ∷ [])) a b j t in record { early = λ _. k; late = λ e. absurd (omega arith); either = inl k }) torn.1;
+    around = changes_to (λ b. IsJournalOf b fs) (Torn (end_of fs + 1) (length (frame_text f ++ 0 ∷ []))) (λ was bytes. IsLeftAround 1 fs f was bytes) old.contents new.contents stands
+        (λ a b j t. torn_around fs f a b t) torn.1;
   }
   fails_early old new stands (inr written) = record {
     failed = 2;
@@ -172,6 +245,8 @@ module _ (fs : List Framed) (f : Framed) (fits : IsFrame f) where
     calls = written.0;
     contents = changes_to (λ b. IsJournalOf b fs) (Written (end_of fs + 1) (frame_text f ++ 0 ∷ [])) (λ _ bytes. IsLeftAt 2 fs f bytes) old.contents new.contents stands
         (λ a b j w. let k = still_frames fs f b (written_behind fs f a b fits j w) in record { early = λ _. k; late = λ e. absurd (omega arith); either = inl k }) written.1;
+    around = changes_to (λ b. IsJournalOf b fs) (Written (end_of fs + 1) (frame_text f ++ 0 ∷ [])) (λ was bytes. IsLeftAround 2 fs f was bytes) old.contents new.contents stands
+        (λ a b j w. written_around fs f a b j w) written.1;
   }
 
   -- the second write or its sync failed
@@ -183,6 +258,8 @@ module _ (fs : List Framed) (f : Framed) (fits : IsFrame f) where
     calls = (let calls = torn.0 in omega arith);
     contents = changes_both (λ b. IsJournalOf b fs) (Written (end_of fs + 1) (frame_text f ++ 0 ∷ [])) (Torn (end_of fs) 1) (λ _ bytes. IsLeftAt 3 fs f bytes) old.contents mid.contents new.contents stands
         (λ a b y j w t. record { early = λ le. absurd (omega arith); late = λ e. absurd (omega arith); either = torn_gate fs f b y (written_behind fs f a b fits j w) t }) c torn.1;
+    around = changes_both (λ b. IsJournalOf b fs) (Written (end_of fs + 1) (frame_text f ++ 0 ∷ [])) (Torn (end_of fs) 1) (λ was bytes. IsLeftAround 3 fs f was bytes) old.contents mid.contents new.contents stands
+        (λ a b y j w t. record { early = λ le. absurd (omega arith); at_gate = λ _. torn_with_gate fs f j.gate a b y (staged_text fs f a b j w) t; late = λ e. absurd (omega arith) }) c torn.1;
   }
   fails_late old mid new stands two c (inr written) = record {
     failed = 4;
@@ -191,6 +268,8 @@ module _ (fs : List Framed) (f : Framed) (fits : IsFrame f) where
     calls = (let calls = written.0 in omega arith);
     contents = changes_both (λ b. IsJournalOf b fs) (Written (end_of fs + 1) (frame_text f ++ 0 ∷ [])) (Written (end_of fs) (open_gate ∷ [])) (λ _ bytes. IsLeftAt 4 fs f bytes) old.contents mid.contents new.contents stands
         (λ a b y j w v. let k = written_gate fs f b y (written_behind fs f a b fits j w) v in record { early = λ le. absurd (omega arith); late = λ e. k; either = inr k }) c written.1;
+    around = changes_both (λ b. IsJournalOf b fs) (Written (end_of fs + 1) (frame_text f ++ 0 ∷ [])) (Written (end_of fs) (open_gate ∷ [])) (λ was bytes. IsLeftAround 4 fs f was bytes) old.contents mid.contents new.contents stands
+        (λ a b y j w v. let is = opened_with_gate fs f j.gate a b y (staged_text fs f a b j w) v in record { early = λ le. absurd (omega arith); at_gate = λ _. (open_gate, is); late = λ e. is }) c written.1;
   }
 
   pub appends : {E : Type 0} (old mid new : Shown) (result : Result (Unit {0}) E) → StandsFor old.contents fs → Changes (Written (end_of fs + 1) (frame_text f ++ 0 ∷ [])) old.contents mid.contents → WritesSurely (end_of fs) (open_gate ∷ []) mid new result

@@ -3,15 +3,15 @@ use Rattle.std.proofs.Common.{◌≡◌, inl, inr, ℕ, ◌+◌, ◌≤◌, List
 use Rattle.std.specs.Prelude.{IfErr, IfOk, IfSome, MatchResult, ◌↔◌}
 use Rattle.std.proofs.lemmas.List.{append-nil}
 use Rattle.std.proofs.lemmas.Bool.{cases_lt}
-use Rattle.rep_disk.specs.Disk.{Shown, IsAtRest, Stays}
+use Rattle.rep_disk.specs.Disk.{Shown, IsAtRest, IsUntouched, Stays}
 use Rattle.rep_journal.specs.Format.{magic, open_gate, Framed, IsJournalOf, end_of}
-use Rattle.rep_journal.specs.State.{IsRead, MakesCalls}
+use Rattle.rep_journal.specs.State.{IsRead, IsSettled, MakesCalls, StandsFor}
 use Rattle.rep_journal.specs.Recovery.{RestsFrom}
 use Rattle.rep_journal.specs.Outcome.{RestsUnlessFailed}
 use Rattle.rep_journal.specs.Listed.{Listed}
 use Rattle.rep_journal.specs.Head.{IsOpen}
 use Rattle.rep_journal.specs.Scan.{IsScanned, EndsBroken, IsScannedTo}
-use Rattle.rep_journal.specs.Finding.{Finds}
+use Rattle.rep_journal.specs.Finding.{Finds, HidesNoFault}
 use Rattle.rep_journal.specs.declared.stop.Stop.{Stop}
 use Rattle.rep_journal.specs.declared.error.WhyNot.{WhyNot}
 use Rattle.rep_journal.specs.declared.error.WhyNot.TheVariants.{Blank, Damaged}
@@ -97,26 +97,51 @@ ends_kept (Some bytes) list (Err why) j same some none =
 -- The disk was read so far, and its contents begin with these frames.
 pub record IsReading (old now : Shown) (frames : List Framed) : Type 0 where
   pub read : IsRead old now
+  pub no_fault : now.faults ≡ old.faults
   pub scanned : IfSome old.contents (λ b. IsScanned b frames)
+
+-- an image that may be left just where another one may
+told_as : (contents : Option (List ℕ)) (Leaves Left : Type 0) (image : List ℕ) → Leaves ↔ Left → IfSome contents (λ bytes. Left ↔ image ≡ bytes) → IfSome contents (λ bytes. Leaves ↔ image ≡ bytes)
+told_as None Leaves Left image same is = tt
+told_as (Some bytes) Leaves Left image same is = both_ways same is
+
+-- a call that is no device call leaves contents at rest
+pub settled_on : (frames now : List Framed) (old new : Shown) → now ≡ frames → IsUntouched old new → IsSettled frames old → IsSettled now new
+settled_on frames now old new same untouched settled = record {
+  stands = subst (λ (contents : Option (List ℕ)). StandsFor contents now) (sym untouched.contents) (subst (StandsFor old.contents) (sym same) settled.stands);
+  rest = λ before image.
+      let leaves = subst (λ (n : ℕ). new.may_leave new.moment image ↔ old.may_leave n image) untouched.moment (untouched.images new.moment image) in
+      let moment = untouched.moment in
+      subst (λ (contents : Option (List ℕ)). IfSome contents (λ bytes. new.may_leave new.moment image ↔ image ≡ bytes)) (sym untouched.contents)
+      (told_as old.contents (new.may_leave new.moment image) (old.may_leave old.moment image) image leaves (settled.rest (omega arith) image));
+}
 
 -- After the sync that comes first.
 module _ (old mid new : Shown) (one : MakesCalls 1 old mid) (read : IsRead mid new) where
   pub rests : IsAtRest mid → RestsFrom (old.moment + 2) new
   rests rest before =
       let le = read.later in
-      let b = read.crash before in
-      let told : (image : List ℕ) → mid.may_leave mid.moment image → IfSome new.contents (λ bytes. image ≡ bytes) = λ image leaves.
-      subst (λ (contents : Option (List ℕ)). IfSome contents (λ bytes. image ≡ bytes)) (sym read.contents) (rest (omega arith) image leaves) in (
+      let b = read.crash before in (
         omega arith,
-        λ m image from to leaves. elim (cases_lt mid.moment m) [
-          | inl behind ↦ told image ((b.images m image behind to).0 leaves)
-          | inr ahead ↦
-              let here : m ≡ mid.moment = omega arith in
-              told image (subst (λ (n : ℕ). mid.may_leave n image) here ((b.past m image ahead).0 leaves))
-        ],
+        λ m image from to. subst (λ (contents : Option (List ℕ)). IfSome contents (λ bytes. new.may_leave m image ↔ image ≡ bytes)) (sym read.contents)
+            (told_as mid.contents (new.may_leave m image) (mid.may_leave mid.moment image) image (elim (cases_lt mid.moment m) [
+              | inl behind ↦ b.images m image behind to
+              | inr ahead ↦
+                  let here : m ≡ mid.moment = omega arith in
+                  subst (λ (n : ℕ). new.may_leave m image ↔ mid.may_leave n image) here (b.past m image ahead)
+            ]) (rest (omega arith) image)),
       )
 
   -- whatever the search answers after that sync
   pub rests_whatever : {T : Type 0} (result : Result T WhyNot) → IsAtRest mid → MatchResult result (λ _. RestsFrom (old.moment + 2) new) (λ why. RestsUnlessFailed why old new)
   rests_whatever (Ok found) rest = rests rest
   rests_whatever (Err why) rest = inr (rests rest)
+
+-- The disk didn't fail so far.
+pub hides_on : {T : Type 0} (old mid new : Shown) (result : Result T WhyNot) → mid.faults ≡ old.faults → HidesNoFault mid new result → HidesNoFault old new result
+hides_on old mid new (Ok found) same hides = hides ∙ same
+hides_on old mid new (Err why) same hides = λ other. hides other ∙ same
+
+pub hides_none : {T : Type 0} (old new : Shown) (result : Result T WhyNot) → new.faults ≡ old.faults → HidesNoFault old new result
+hides_none old new (Ok found) same = same
+hides_none old new (Err why) same = λ other. same

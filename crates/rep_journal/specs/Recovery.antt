@@ -1,9 +1,12 @@
 -- What a crash leaves of a journal, at each moment of a call: this project's own. A moment is one within a device
 -- call or after it, by the disk's model; what is said holds below the last value of a moment.
-use Rattle.std.specs.Prelude.{◌≡◌, ◌⊎◌, ℕ, ◌+◌, ◌<◌, ◌≤◌, List, [], ◌∷◌, length, IfSome, IsSome}
+use Rattle.std.specs.Prelude.{◌≡◌, ◌≢◌, ◌⊎◌, ◌↔◌, ℕ, ◌+◌, ◌<◌, ◌≤◌, List, [], ◌∷◌, length, IfSome, IsSome, Some}
 use Rattle.rep_disk.specs.Disk.{Shown, KeepsPast, IsAtRest, last_moment}
-use Rattle.rep_journal.specs.Format.{Framed, IsJournalOf, IsBlank}
-use Rattle.rep_journal.specs.State.{IsWithOrWithout}
+use Rattle.rep_disk.specs.Record.{odd_byte}
+use Rattle.rep_disk.specs.declared.image.Image.{Image}
+use Rattle.rep_disk.specs.declared.image.Image.TheVariants.{Old, New, Odd}
+use Rattle.rep_journal.specs.Format.{Framed, IsJournalOf, IsBlank, open_gate}
+use Rattle.rep_journal.specs.State.{IsWithOrWithout, with_gate}
 
 -- an image is a journal of these frames, or blank, which counts as no frames
 abbrev pub ImageStandsFor : List ℕ → List Framed → Type 0
@@ -30,6 +33,26 @@ pub record PutMoments (frames : List Framed) (frame : Framed) (old new : Shown) 
 abbrev pub Puts : List Framed → Framed → Shown → Shown → Type 0
 Puts frames frame old new = IsSome old.contents → new.moment < last_moment → PutMoments frames frame old new
 
+-- the gate's byte in the image of this name: a closed one that stood there, the open one, or an odd one
+abbrev pub IsGateOf : Image → ℕ → Type 0
+IsGateOf Old gate = gate ≢ open_gate
+IsGateOf New gate = gate ≡ open_gate
+IsGateOf Odd gate = gate ≡ odd_byte
+
+-- Of what a crash at the moment may leave, only the gate in front of the frame is pending: each byte may stand there, and
+-- all else is as it was put.
+pub record IsOpenAtGate (frames : List Framed) (frame : Framed) (was : List ℕ) (s : Shown) (m : ℕ) : Type 0 where
+  pub only : (image : List ℕ) → s.may_leave m image → (gate : ℕ) × (image ≡ with_gate frames frame gate was)
+  pub each : (gate : ℕ) → s.may_leave m (with_gate frames frame gate was)
+  pub named : (name : Image) (image : List ℕ) → s.named name m ≡ Some image
+      → (gate : ℕ) × IsGateOf name gate × (image ≡ with_gate frames frame gate was)
+
+-- so at each moment from within the third device call of a put to this one, where the disk tells its contents
+abbrev pub OpensGate : List Framed → Framed → Shown → Shown → ℕ → Type 0
+OpensGate frames frame old new until =
+    IfSome old.contents (λ was. new.moment < last_moment → (m : ℕ) → old.moment + 4 < m → m ≤ until → m ≤ new.moment
+    → IsOpenAtGate frames frame was new m)
+
 -- The images while the magic is written: each is blank.
 pub record BlankMoments (old new : Shown) : Type 0 where
   pub past : KeepsPast old new
@@ -50,8 +73,8 @@ pub record CreateMoments (first : Framed) (old new : Shown) : Type 0 where
 abbrev pub Creates : Framed → Shown → Shown → Type 0
 Creates first old new = IsSome old.contents → IsAtRest old → new.moment < last_moment → CreateMoments first old new
 
--- that moment has been, and from it on the contents, where they are told, are the only image
+-- that moment has been, and from it on the contents, where they are told, are an image and the only one
 abbrev pub RestsFrom : ℕ → Shown → Type 0
 RestsFrom from s =
     s.moment < last_moment
-    → (from ≤ s.moment) × ((m : ℕ) (image : List ℕ) → from ≤ m → m ≤ s.moment → s.may_leave m image → IfSome s.contents (λ bytes. image ≡ bytes))
+    → (from ≤ s.moment) × ((m : ℕ) (image : List ℕ) → from ≤ m → m ≤ s.moment → IfSome s.contents (λ bytes. s.may_leave m image ↔ image ≡ bytes))

@@ -1,9 +1,9 @@
 -- What a journal is, as contracts see it, and what its calls do to it: this project's own.
-use Rattle.std.specs.Prelude.{◌≡◌, ◌⊎◌, ◌↔◌, Bool, if◌then◌else◌, ℕ, ◌+◌, ◌-◌, ◌*◌, ◌<◌, ◌≤◌, List, [], ◌∷◌, ◌++◌, length, drop, nat_le, IfSome, MatchBool, MatchResult, Option, Result}
+use Rattle.std.specs.Prelude.{◌≡◌, ◌⊎◌, ◌↔◌, Bool, if◌then◌else◌, ℕ, ◌+◌, ◌-◌, ◌*◌, ◌<◌, ◌≤◌, List, [], ◌∷◌, ◌++◌, length, drop, nat_le, IfSome, IsFalse, MatchBool, MatchResult, Option, Result}
 use Rattle.rep_io.specs.Causes.{Rose}
-use Rattle.rep_disk.specs.Disk.{Shown, AdvancesBy, Changes, IsAtRest, IsOwnImage, Moves, Same, Stays}
+use Rattle.rep_disk.specs.Disk.{Shown, AdvancesBy, Changes, IsAtRest, IsOwnImage, Moves, Same, Stays, Torn}
 use Rattle.rep_disk.specs.Memory.{counted}
-use Rattle.rep_journal.specs.Format.{Framed, IsJournalOf, IsBlank, closed_gate, end_of, front_text}
+use Rattle.rep_journal.specs.Format.{Framed, IsJournalOf, IsBlank, closed_gate, end_of, frame_text, front_text, open_gate}
 
 pub record State (D : Type 0) : Type 0 where
   pub disk : D
@@ -42,6 +42,19 @@ pub record IsLeftAt (failed : ℕ) (frames : List Framed) (frame : Framed) (byte
   pub late : failed ≡ 4 → IsJournalOf bytes (frames ++ frame ∷ [])
   pub either : IsWithOrWithout frames frame bytes
 
+-- What a put makes of contents from the gate's write on, with this byte as the gate in front of the frame: the frame's
+-- text and a closed gate behind it, and all else as it was.
+abbrev pub with_gate : List Framed → Framed → ℕ → List ℕ → List ℕ
+with_gate frames frame gate was =
+    front_text frames ++ gate ∷ (frame_text frame ++ closed_gate ∷ drop (1 + end_of (frames ++ frame ∷ [])) was)
+
+-- What was changed where that device call failed: up to the frame's sync the place behind the gate as far as the next
+-- gate, and then the gate alone, which is open once it was written.
+pub record IsLeftAround (failed : ℕ) (frames : List Framed) (frame : Framed) (was bytes : List ℕ) : Type 0 where
+  pub early : failed ≤ 2 → Torn (end_of frames + 1) (length (frame_text frame) + 1) was bytes
+  pub at_gate : 3 ≤ failed → (gate : ℕ) × (bytes ≡ with_gate frames frame gate was)
+  pub late : failed ≡ 4 → bytes ≡ with_gate frames frame open_gate was
+
 -- so many device calls were made
 abbrev pub MakesCalls : ℕ → Shown → Shown → Type 0
 MakesCalls calls old new = AdvancesBy (2 * calls) old.moment new.moment
@@ -66,6 +79,7 @@ pub record FailsToAppend (frames : List Framed) (frame : Framed) (old new : Show
   pub within : failed ≤ 4
   pub calls : MakesCalls failed old new
   pub contents : Changes (λ _ bytes. IsLeftAt failed frames frame bytes) old.contents new.contents
+  pub around : Changes (λ was bytes. IsLeftAround failed frames frame was bytes) old.contents new.contents
 
 -- contents and images are as before, or a sync made sure of them
 pub record IsKeptBy (old new : Shown) : Type 0 where
@@ -81,6 +95,7 @@ pub record IsSame {D : Type 0} (shown : D → Shown) (failed : Bool) (old new : 
   pub spare : new.spare ≡ old.spare
   pub faults : new.faults ≡ (if failed then counted old.faults else old.faults)
   pub disk : IsRead (shown old.disk) (shown new.disk)
+  pub no_fault : IsFalse failed → (shown new.disk).faults ≡ (shown old.disk).faults
 
 -- one frame more
 pub record Appends {D : Type 0} (shown : D → Shown) (frame : Framed) (old new : State D) : Type 0 where
@@ -92,7 +107,7 @@ pub record Appends {D : Type 0} (shown : D → Shown) (frame : Framed) (old new 
   pub faults : new.faults ≡ old.faults
   pub calls : MakesCalls 4 (shown old.disk) (shown new.disk)
   pub own : IsOwnImage (shown old.disk) ↔ IsOwnImage (shown new.disk)
-  pub disk_faults : (shown old.disk).faults ≤ (shown new.disk).faults
+  pub no_fault : (shown new.disk).faults ≡ (shown old.disk).faults
 
 -- the two calls for the magic are made just where the contents, if they are told, have at most 17 bytes
 abbrev pub MakesCreateCalls : Shown → Shown → Type 0
@@ -108,7 +123,7 @@ pub record Begins {D : Type 0} (shown : D → Shown) (first : Framed) (old : D) 
   pub later : (shown old).moment ≤ (shown new.disk).moment
   pub calls : MakesCreateCalls (shown old) (shown new.disk)
   pub own : IsOwnImage (shown old) ↔ IsOwnImage (shown new.disk)
-  pub disk_faults : (shown old).faults ≤ (shown new.disk).faults
+  pub no_fault : (shown new.disk).faults ≡ (shown old).faults
 
 -- What is left where a device call of `create` failed, and so many that were still due were not made: blank contents
 -- while the gate isn't written, and the first frame where only the last sync failed.

@@ -39,7 +39,7 @@ impl<D: Disk> Model for Journal<D> {
 impl<D: Disk> Journal<D> {
     ghost use Rattle.rep_journal.specs.Format.{BrokenAt, IsBlank, IsForeign, IsOfKind, IsPresent, Keeps, gate_at};
     ghost use Rattle.rep_journal.specs.State.{Appends, Begins, FailsToBegin, IsKeptBy, IsRead, IsSame, IsSettled, StopsAt};
-    ghost use Rattle.rep_journal.specs.Recovery.{Creates, Puts, RestsFrom};
+    ghost use Rattle.rep_journal.specs.Recovery.{Creates, OpensGate, Puts, RestsFrom};
     ghost use Rattle.rep_journal.specs.Outcome.{Refuses, RestsUnlessFailed};
     ghost use Rattle.rep_journal.specs.Fields.{IsBlankBy};
     ghost use Rattle.rep_journal.specs.Listed.{most_frames};
@@ -49,12 +49,15 @@ impl<D: Disk> Journal<D> {
     /// # Errors
     ///
     /// `Foreign` exactly where the contents aren't blank and lack the magic, `Present` exactly where they aren't blank
-    /// and have it, `DeviceFault` only where the disk failed in this call, and `OutOfMemory`.
+    /// and have it, `DeviceFault` exactly where the disk failed in this call, and `OutOfMemory`.
     pub fn look(alloc: Global, disk: D) -> Result<Vacant<D>, NotMade<D>>
         ensures vacant { IfOk result (λ vacant. IfSome (D.shown disk).contents IsBlank) }
         ensures foreign { Refuses IsForeign WhyNot.Foreign (D.shown disk).contents result }
         ensures present { Refuses IsPresent WhyNot.Present (D.shown disk).contents result }
         ensures device_fault { IfErr result (λ e. e.why ≡ WhyNot.DeviceFault → Rose (D.shown disk).faults (D.shown e.disk).faults) }
+        ensures no_fault { MatchResult result
+            (λ vacant. (D.shown vacant).faults ≡ (D.shown disk).faults)
+            (λ e. e.why ≢ WhyNot.DeviceFault → (D.shown e.disk).faults ≡ (D.shown disk).faults) }
         ensures no_other { IfErr result (λ e. (e.why ≡ WhyNot.Foreign) ⊎ (e.why ≡ WhyNot.Present) ⊎ (e.why ≡ WhyNot.DeviceFault) ⊎ (e.why ≡ WhyNot.OutOfMemory)) }
         ensures kept { MatchResult result (λ vacant. IsRead (D.shown disk) (D.shown vacant)) (λ e. IsRead (D.shown disk) (D.shown e.disk)) }
     {
@@ -105,7 +108,7 @@ impl<D: Disk> Journal<D> {
     ///
     /// # Errors
     ///
-    /// `DeviceFault` alone, and only where the disk failed in this call. The contents are then blank, or have the
+    /// `DeviceFault` alone, and exactly where the disk failed in this call. The contents are then blank, or have the
     /// first frame.
     pub fn create(vacant: Vacant<D>, first: &Frame) -> Result<Journal<D>, NotMade<D>>
         ensures created { IfOk result (Begins D.shown first.now vacant) }
@@ -138,7 +141,7 @@ impl<D: Disk> Journal<D> {
     ///
     /// `Blank` exactly where the contents are blank, `Foreign` exactly where they aren't blank and lack the magic, and
     /// `Damaged` exactly where they aren't blank and an open gate isn't followed by a whole frame and a gate byte.
-    /// `DeviceFault` only where the disk failed in this call, and `OutOfMemory`, also where there are more frames than
+    /// `DeviceFault` exactly where the disk failed in this call, and `OutOfMemory`, also where there are more frames than
     /// a journal can have.
     pub fn reopen(alloc: Global, disk: D) -> Result<Journal<D>, NotMade<D>>
         ensures reopened { IfOk result (λ journal. IfSome (D.shown disk).contents (λ bytes. IsOfKind bytes (Keeps journal.frames))) }
@@ -148,6 +151,9 @@ impl<D: Disk> Journal<D> {
         ensures foreign { Refuses IsForeign WhyNot.Foreign (D.shown disk).contents result }
         ensures damaged { (at : ℕ) → Refuses (λ bytes. BrokenAt bytes at) (WhyNot.Damaged at) (D.shown disk).contents result }
         ensures device_fault { IfErr result (λ e. e.why ≡ WhyNot.DeviceFault → Rose (D.shown disk).faults (D.shown e.disk).faults) }
+        ensures no_fault { MatchResult result
+            (λ journal. (D.shown journal.disk).faults ≡ (D.shown disk).faults)
+            (λ e. e.why ≢ WhyNot.DeviceFault → (D.shown e.disk).faults ≡ (D.shown disk).faults) }
         ensures not_present { IfErr result (λ e. e.why ≢ WhyNot.Present) }
         ensures kept { MatchResult result (λ journal. IsKeptBy (D.shown disk) (D.shown journal.disk)) (λ e. IsKeptBy (D.shown disk) (D.shown e.disk)) }
         ensures rest { MatchResult result
@@ -188,7 +194,7 @@ impl<D: Disk> Journal<D> {
     ///
     /// # Errors
     ///
-    /// `DeviceFault` only where the disk failed in this call.
+    /// `DeviceFault` exactly where the disk failed in this call.
     pub fn frame(&mut self, i: u32) -> Result<Frame, DeviceFault>
         requires { i < length self.old.frames }
         ensures frame { IfOk result (λ frame. IsSome (D.shown self.old.disk).contents → slice_get self.old.frames i ≡ Some frame) }
@@ -224,8 +230,8 @@ impl<D: Disk> Journal<D> {
     ///
     /// # Errors
     ///
-    /// `Stopped` only where the disk failed in this call. The contents then have the frames from before, with the new
-    /// one or without it.
+    /// `Stopped` exactly where the disk failed in this call. The contents then have the frames from before, with the new
+    /// one or without it. Once the frame is sure, only the gate's byte is open to a crash, until the call has succeeded.
     pub fn put(self, frame: &Frame) -> Result<Journal<D>, Stopped<D>>
         requires { 1 ≤ self.spare }
         ensures put { IfOk result (Appends D.shown frame.now self) }
@@ -233,6 +239,9 @@ impl<D: Disk> Journal<D> {
         ensures crash { MatchResult result
             (λ journal. Puts self.frames frame.now (D.shown self.disk) (D.shown journal.disk))
             (λ stopped. Puts self.frames frame.now (D.shown self.disk) (D.shown stopped.disk)) }
+        ensures at_gate { MatchResult result
+            (λ journal. OpensGate self.frames frame.now (D.shown self.disk) (D.shown journal.disk) ((D.shown self.disk).moment + 7))
+            (λ stopped. OpensGate self.frames frame.now (D.shown self.disk) (D.shown stopped.disk) (D.shown stopped.disk).moment) }
     {
         let Journal {
             mut disk,

@@ -1,12 +1,12 @@
 //! What `create` and `put` write.
 ghost use Rattle.std.specs.Prelude.{◌≡◌, ◌↔◌, ◌+◌, ◌≤◌, List, [], ◌∷◌, ◌++◌, length, OnErr, OnOk, MatchResult};
 ghost use Rattle.rep_io.specs.Causes.{HasCause};
-ghost use Rattle.rep_disk.specs.Disk.{Changes, IsAtRest, IsOwnImage, IsWithin, Moves, Torn, end_of_disk};
+ghost use Rattle.rep_disk.specs.Disk.{Changes, IsAtRest, IsOwnImage, IsWithin, Moves, Torn, end_of_disk, written_by_name};
 ghost use Rattle.rep_journal.specs.Format.{Framed, IsBlank, end_of};
 ghost use Rattle.rep_journal.specs.State.{Becomes, CountsCalls, FailsToAppend, FailsToCreate, Leaves, MakesCalls, StandsFor};
-ghost use Rattle.rep_journal.specs.Recovery.{Blanks, Creates, Puts};
+ghost use Rattle.rep_journal.specs.Recovery.{Blanks, Creates, OpensGate, Puts};
 ghost use Rattle.rep_journal.specs.Fields.{IsBlankBy, room_of_frame};
-ghost use Rattle.rep_journal.specs.Putting.{CountsBlankCalls, calls_due, SameBehind, WritesSurely};
+ghost use Rattle.rep_journal.specs.Putting.{CountsBlankCalls, NamesContents, NamesUntilSure, OpensUntilSure, calls_due, SameBehind, WritesSurely};
 
 use crate::bytes::Stage;
 use crate::format::{BLANK, FIRST_GATE, OPEN_GATE};
@@ -15,6 +15,7 @@ use rep_disk::Disk;
 use rep_io::Failed;
 
 /// Writes a piece and makes sure of it.
+#[tactic(auto, using(crate::proofs::SureLemmas::opens_on, crate::proofs::SureLemmas::names_on, crate::proofs::SureLemmas::named_surely))]
 pub(crate) fn write_and_sync<D: Disk>(disk: &mut D, at: u64, piece: &[u8]) -> Result<(), Failed>
     requires within { IsWithin at (D.shown disk.old).contents }
     requires end { at + length piece.now ≤ end_of_disk }
@@ -23,6 +24,9 @@ pub(crate) fn write_and_sync<D: Disk>(disk: &mut D, at: u64, piece: &[u8]) -> Re
     ensures rest { OnOk result (IsAtRest (D.shown disk.new)) }
     ensures spare { (D.shown disk.old).spare ≤ (D.shown disk.new).spare + length piece.now }
     ensures crash { Moves (Torn at (length piece.now)) (D.shown disk.old) (D.shown disk.new) }
+    ensures opens { OpensUntilSure (Torn at (length piece.now)) (D.shown disk.old) (D.shown disk.new) result }
+    ensures names { NamesUntilSure (written_by_name at piece.now) (D.shown disk.old) (D.shown disk.new) result }
+    ensures named { OnOk result (NamesContents (D.shown disk.new)) }
     ensures own { IsOwnImage (D.shown disk.old) ↔ IsOwnImage (D.shown disk.new) }
     ensures cause { HasCause (D.shown disk.old).faults (D.shown disk.new).faults result }
 {
@@ -46,6 +50,9 @@ pub(crate) fn append<D: Disk>(disk: &mut D, end: u64, frame: &Frame) -> Result<(
     ensures calls { CountsCalls 4 (D.shown disk.old) (D.shown disk.new) result }
     ensures crash { (frames : List Framed) → end ≡ end_of frames → StandsFor (D.shown disk.old).contents frames
         → IsAtRest (D.shown disk.old) → Puts frames frame.now (D.shown disk.old) (D.shown disk.new) }
+    ensures at_gate { (frames : List Framed) → end ≡ end_of frames → StandsFor (D.shown disk.old).contents frames → MatchResult result
+        (λ _. OpensGate frames frame.now (D.shown disk.old) (D.shown disk.new) ((D.shown disk.old).moment + 7))
+        (λ _. OpensGate frames frame.now (D.shown disk.old) (D.shown disk.new) (D.shown disk.new).moment) }
     ensures own { IsOwnImage (D.shown disk.old) ↔ IsOwnImage (D.shown disk.new) }
     ensures cause { HasCause (D.shown disk.old).faults (D.shown disk.new).faults result }
 {

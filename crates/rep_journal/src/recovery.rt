@@ -5,7 +5,7 @@ ghost use Rattle.rep_journal.specs.Head.{IsOpen};
 ghost use Rattle.rep_journal.specs.State.{IsKeptBy, IsRead};
 ghost use Rattle.rep_journal.specs.Recovery.{RestsFrom};
 ghost use Rattle.rep_journal.specs.Outcome.{RestsUnlessFailed};
-ghost use Rattle.rep_journal.specs.Finding.{Finds};
+ghost use Rattle.rep_journal.specs.Finding.{Finds, HidesNoFault};
 ghost use Rattle.rep_journal.specs.Listed.{most_frames};
 ghost use Rattle.rep_journal.specs.Scan.{IsScanned, IsScannedTo};
 
@@ -53,6 +53,7 @@ fn read_piece<D: Disk>(
     ensures why { IfErr result (λ why. (why ≡ WhyNot.DeviceFault) ⊎ (why ≡ WhyNot.OutOfMemory)) }
     ensures kept { IsRead (D.shown disk.old) (D.shown disk.new) }
     ensures cause { IfErr result (λ why. why ≡ WhyNot.DeviceFault → Rose (D.shown disk.old).faults (D.shown disk.new).faults) }
+    ensures no_fault { HidesNoFault (D.shown disk.old) (D.shown disk.new) result }
 {
     let Ok(count) = disk.read_at(list.end(), buffer) else {
         return Err(WhyNot::DeviceFault);
@@ -81,6 +82,7 @@ fn read_pieces<D: Disk>(
     ensures not_present { IfErr result (λ why. why ≢ WhyNot.Present) }
     ensures kept { IsRead (D.shown disk.old) (D.shown disk.new) }
     ensures cause { IfErr result (λ why. why ≡ WhyNot.DeviceFault → Rose (D.shown disk.old).faults (D.shown disk.new).faults) }
+    ensures no_fault { HidesNoFault (D.shown disk.old) (D.shown disk.new) result }
 {
     let mut list = list;
     loop {
@@ -101,6 +103,7 @@ fn read_frames<D: Disk>(alloc: Global, disk: &mut D) -> Result<FrameList, WhyNot
     ensures not_present { IfErr result (λ why. why ≢ WhyNot.Present) }
     ensures kept { IsRead (D.shown disk.old) (D.shown disk.new) }
     ensures cause { IfErr result (λ why. why ≡ WhyNot.DeviceFault → Rose (D.shown disk.old).faults (D.shown disk.new).faults) }
+    ensures no_fault { HidesNoFault (D.shown disk.old) (D.shown disk.new) result }
 {
     let Ok(mut buffer) = zeros(alloc) else {
         return Err(WhyNot::OutOfMemory);
@@ -118,6 +121,7 @@ pub(crate) fn find<D: Disk>(alloc: Global, disk: &mut D) -> Result<FrameList, Wh
         (λ _. RestsFrom ((D.shown disk.old).moment + 2) (D.shown disk.new))
         (λ why. RestsUnlessFailed why (D.shown disk.old) (D.shown disk.new)) }
     ensures cause { IfErr result (λ why. why ≡ WhyNot.DeviceFault → Rose (D.shown disk.old).faults (D.shown disk.new).faults) }
+    ensures no_fault { HidesNoFault (D.shown disk.old) (D.shown disk.new) result }
 {
     if disk.sync().is_err() {
         return Err(WhyNot::DeviceFault);

@@ -44,6 +44,7 @@ pub fn answer_line<K: Sink, Q: Desk>(
         → (ended ≡ End.DeviceFault → head.now.kind ≢ operator) → sink.new ≡ sink.old) }
     ensures sink_later { K.faults sink.old ≤ K.faults sink.new }
     ensures sink_fault { result ≡ Err End.SinkFault → Rose (K.faults sink.old) (K.faults sink.new) }
+    ensures no_sink_fault { result ≢ Err End.SinkFault → K.faults sink.new ≡ K.faults sink.old }
 {
     match read_line(line, head) {
         Ok(order) => answer_order(number, &order, sink, desk),
@@ -66,6 +67,7 @@ pub fn refuse_long_line<K: Sink, Q: Desk>(
     ensures untouched { IfErr result (λ ended. ended ≢ End.SinkFault → sink.new ≡ sink.old) }
     ensures sink_later { K.faults sink.old ≤ K.faults sink.new }
     ensures sink_fault { result ≡ Err End.SinkFault → Rose (K.faults sink.old) (K.faults sink.new) }
+    ensures no_sink_fault { result ≢ Err End.SinkFault → K.faults sink.new ≡ K.faults sink.old }
 {
     refuse(number, Malformed { field: 0, seq: 0 }, sink, desk)
 }
@@ -86,6 +88,7 @@ fn answer_order<K: Sink, Q: Desk>(
         → (ended ≡ End.DeviceFault → head.kind ≢ operator) → sink.new ≡ sink.old) }
     ensures sink_later { K.faults sink.old ≤ K.faults sink.new }
     ensures sink_fault { result ≡ Err End.SinkFault → Rose (K.faults sink.old) (K.faults sink.new) }
+    ensures no_sink_fault { result ≢ Err End.SinkFault → K.faults sink.new ≡ K.faults sink.old }
 {
     match order {
         Order::Asked(q) => answer_request(number, q, sink, desk),
@@ -107,6 +110,7 @@ fn answer_request<K: Sink, Q: Desk>(
     ensures untouched { IfErr result (λ ended. ended ≢ End.SinkFault → sink.new ≡ sink.old) }
     ensures sink_later { K.faults sink.old ≤ K.faults sink.new }
     ensures sink_fault { result ≡ Err End.SinkFault → Rose (K.faults sink.old) (K.faults sink.new) }
+    ensures no_sink_fault { result ≢ Err End.SinkFault → K.faults sink.new ≡ K.faults sink.old }
 {
     match desk.call(q) {
         Ok(reply) => write_reply(number, q.seq, &reply, sink),
@@ -131,6 +135,7 @@ fn extract_period<K: Sink, Q: Desk>(
         → sink.new ≡ sink.old) }
     ensures sink_later { K.faults sink.old ≤ K.faults sink.new }
     ensures sink_fault { result ≡ Err End.SinkFault → Rose (K.faults sink.old) (K.faults sink.new) }
+    ensures no_sink_fault { result ≢ Err End.SinkFault → K.faults sink.new ≡ K.faults sink.old }
 {
     match desk.extract(number, seq, from, to, sink) {
         Ok(()) => Ok(Kind::Extraction),
@@ -151,6 +156,7 @@ fn refuse<K: Sink, Q: Desk>(
     ensures untouched { IfErr result (λ ended. ended ≢ End.SinkFault → sink.new ≡ sink.old) }
     ensures sink_later { K.faults sink.old ≤ K.faults sink.new }
     ensures sink_fault { result ≡ Err End.SinkFault → Rose (K.faults sink.old) (K.faults sink.new) }
+    ensures no_sink_fault { result ≢ Err End.SinkFault → K.faults sink.new ≡ K.faults sink.old }
 {
     let reply = refusal(malformed, desk.front());
     write_reply(number, malformed.seq, &reply, sink)
@@ -162,6 +168,7 @@ fn write_reply<K: Sink>(number: u64, seq: u64, reply: &Reply, sink: &mut K) -> R
     ensures untouched { IfErr result (λ ended. ended ≢ End.SinkFault → sink.new ≡ sink.old) }
     ensures sink_later { K.faults sink.old ≤ K.faults sink.new }
     ensures sink_fault { result ≡ Err End.SinkFault → Rose (K.faults sink.old) (K.faults sink.new) }
+    ensures no_sink_fault { result ≢ Err End.SinkFault → K.faults sink.new ≡ K.faults sink.old }
 {
     match put_all(sink, reply_line(number, seq, reply).bytes()) {
         Ok(()) => Ok(kind_of(&reply.answer)),

@@ -64,7 +64,8 @@ pub trait Desk {
         ensures untouched { IfErr result (λ why. why ≢ DeskFail.SinkFault → why ≢ DeskFail.DeviceFault
             → sink.new ≡ sink.old) }
         ensures sink_later { K.faults sink.old ≤ K.faults sink.new }
-        ensures sink_fault { result ≡ Err DeskFail.SinkFault → Rose (K.faults sink.old) (K.faults sink.new) };
+        ensures sink_fault { result ≡ Err DeskFail.SinkFault → Rose (K.faults sink.old) (K.faults sink.new) }
+        ensures sink_kept { result ≢ Err DeskFail.SinkFault → K.faults sink.new ≡ K.faults sink.old };
 
     /// How many entries the history has that the desk shows now.
     fn front(&mut self) -> u32

@@ -1,5 +1,5 @@
 //! The first line of a lane.
-ghost use Rattle.std.specs.Prelude.{◌≡◌, ◌≤◌, ℕ, List, [], Err, IfOk};
+ghost use Rattle.std.specs.Prelude.{◌≡◌, ◌≢◌, ◌≤◌, ℕ, List, [], Err, IfOk};
 ghost use Rattle.rep_io.specs.Causes.{Rose};
 ghost use Rattle.rep_io.specs.Cutter.{IsAtLimit};
 ghost use Rattle.rep_wire.specs.LaneGrammar.{IsLaneHead};
@@ -24,7 +24,7 @@ pub enum NoHead {
 ///
 /// # Errors
 ///
-/// `OffGrammar` where there is no first line or it is no head, `SourceFault` only where the source failed in this call,
+/// `OffGrammar` where there is no first line or it is no head, `SourceFault` exactly where the source failed in this call,
 /// `InputLimit` where the text is too long and its first line ends past what a text may have.
 pub fn read_head<S: Source>(lines: &mut Lines<S>) -> Result<LaneHead, NoHead>
     ensures heads { (text : List ℕ) → HasRead S.left lines.old text []
@@ -34,6 +34,7 @@ pub fn read_head<S: Source>(lines: &mut Lines<S>) -> Result<LaneHead, NoHead>
     ensures later { S.faults lines.old.source ≤ S.faults lines.new.source }
     ensures source_fault { result ≡ Err NoHead.SourceFault
         → Rose (S.faults lines.old.source) (S.faults lines.new.source) }
+    ensures no_fault { result ≢ Err NoHead.SourceFault → S.faults lines.new.source ≡ S.faults lines.old.source }
 {
     match next_line(lines) {
         Next::Line { bytes, crlf: _ } => match read_lane_head(bytes.bytes()) {

@@ -96,6 +96,8 @@ pub fn run<S: Source, K: Sink, Q: Desk>(
     ensures source_fault { result.end ≡ End.SourceFault → Rose (S.faults lines.source) (S.faults result.lines.source) }
     ensures sink_later { K.faults sink ≤ K.faults result.sink }
     ensures sink_fault { result.end ≡ End.SinkFault → Rose (K.faults sink) (K.faults result.sink) }
+    ensures no_source_fault { result.end ≢ End.SourceFault → S.faults result.lines.source ≡ S.faults lines.source }
+    ensures no_sink_fault { result.end ≢ End.SinkFault → K.faults result.sink ≡ K.faults sink }
 {
     let mut lines = lines;
     let mut sink = sink;
@@ -129,6 +131,8 @@ fn answer_all<S: Source, K: Sink, Q: Desk>(
     ensures source_fault { result.0 ≡ End.SourceFault → Rose (S.faults lines.old.source) (S.faults lines.new.source) }
     ensures sink_later { K.faults sink.old ≤ K.faults sink.new }
     ensures sink_fault { result.0 ≡ End.SinkFault → Rose (K.faults sink.old) (K.faults sink.new) }
+    ensures no_source_fault { result.0 ≢ End.SourceFault → S.faults lines.new.source ≡ S.faults lines.old.source }
+    ensures no_sink_fault { result.0 ≢ End.SinkFault → K.faults sink.new ≡ K.faults sink.old }
 {
     let mut number = first;
     let mut tally = Tally {
@@ -167,6 +171,8 @@ fn answer_next<S: Source, K: Sink, Q: Desk>(
     ensures source_fault { result ≡ Err End.SourceFault → Rose (S.faults lines.old.source) (S.faults lines.new.source) }
     ensures sink_later { K.faults sink.old ≤ K.faults sink.new }
     ensures sink_fault { result ≡ Err End.SinkFault → Rose (K.faults sink.old) (K.faults sink.new) }
+    ensures no_source_fault { result ≢ Err End.SourceFault → S.faults lines.new.source ≡ S.faults lines.old.source }
+    ensures no_sink_fault { result ≢ Err End.SinkFault → K.faults sink.new ≡ K.faults sink.old }
 {
     match next_line(lines) {
         Next::Line { bytes, crlf: _ } => answer_line(head, number, bytes.bytes(), sink, desk),

@@ -1,5 +1,5 @@
 //! A lane's text, line by line.
-ghost use Rattle.std.specs.Prelude.{◌≡◌, ◌+◌, ◌≤◌, ℕ, List, [], Some};
+ghost use Rattle.std.specs.Prelude.{◌≡◌, ◌≢◌, ◌+◌, ◌≤◌, ℕ, List, [], Some};
 ghost use Rattle.rep_io.specs.Causes.{Rose};
 ghost use Rattle.rep_io.specs.Lines.{longest_text};
 ghost use Rattle.rep_io.specs.Cutter.{IsAtLimit, IsOver, fresh};
@@ -27,6 +27,7 @@ pub fn next_line<S: Source>(lines: &mut Lines<S>) -> Next
     ensures later { S.faults lines.old.source ≤ S.faults lines.new.source }
     ensures source_fault { result ≡ Next.SourceFault
         → Rose (S.faults lines.old.source) (S.faults lines.new.source) }
+    ensures no_fault { result ≢ Next.SourceFault → S.faults lines.new.source ≡ S.faults lines.old.source }
 {
     lines.next()
 }

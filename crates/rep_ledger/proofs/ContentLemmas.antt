@@ -1,25 +1,24 @@
 -- Contents keep one history, and are of one kind.
-use Rattle.std.proofs.Common.{◌≡◌, ◌≢◌, ℕ, zero, suc, ◌+◌, ◌<◌, ◌≤◌, ◌⊎◌, inl, inr, List, [], ◌∷◌, ◌++◌, length, get_or, take, drop, Option, Some, None, Ok, refl, sym, ap, subst, ◌∙◌, arith, length-append, append-nil, append_assoc}
+use Rattle.std.proofs.Common.{◌≡◌, ◌≢◌, ℕ, zero, suc, ◌<◌, inl, inr, List, [], ◌∷◌, ◌++◌, length, get_or, take, drop, Option, Ok, refl, sym, ap, subst, ◌∙◌, arith, length-append, append-nil, append_assoc}
 use Rattle.std.proofs.lemmas.Bool.{cases_order}
 use Rattle.std.proofs.lemmas.List.{length-take-le}
-use Rattle.afd_records.specs.Record.{IsBody}
 use Rattle.afd_records.specs.Line.{IsLineOf}
-use Rattle.afd_records.specs.Reading.{IsReadFrom, no_notes}
+use Rattle.afd_records.specs.Reading.{no_notes}
 use Rattle.afd_records.specs.declared.record.Body.{Body}
 use Rattle.afd_records.specs.declared.reading.ReadLine.{ReadLine}
 use Rattle.afd_records.proofs.Apart.{only_answer}
 use Rattle.rep_wire.specs.declared.request.Entry.{Entry}
 use Rattle.rep_core.specs.Hashes.{hash_behind}
-use Rattle.rep_core.specs.Valid.{Fits, Founds, IsFounded}
+use Rattle.rep_core.specs.Valid.{IsFounded}
 use Rattle.rep_core.proofs.Splits.{split_of}
-use Rattle.rep_journal.specs.Format.{Framed, IsJournalOf, IsBlank, IsForeign, HasMagic, BrokenAt, end_of, front_text, frames_text, magic, open_gate}
+use Rattle.rep_journal.specs.Format.{Framed, IsJournalOf, IsBlank, IsForeign, BrokenAt, end_of}
 use Rattle.rep_journal.specs.Format.{Kind, IsOfKind, Blank as NoJournal, Foreign as Alien, Damaged as Broken, Keeps as Frames}
 use Rattle.rep_journal.proofs.KindLemmas.{one_journal, journal_magic, kept_not_blank, one_broken, one_kind, some_kind}
 use Rattle.rep_journal.proofs.UniqueLemmas.{same_split}
-use Rattle.rep_ledger.specs.Fitting.{FitsAt, IsEmptyOrFounded, IsNextLine}
-use Rattle.rep_ledger.specs.Ledger.{IsLedgerOf, IsDamagedAt, MisfitAmong, MisfitsAt, Content, Contains, Blank, Foreign, Damaged, Keeps, frames_of, next_frame}
+use Rattle.rep_ledger.specs.Fitting.{FitsAt, IsEmptyOrFounded}
+use Rattle.rep_ledger.specs.Ledger.{IsLedgerOf, IsDamagedAt, MisfitAmong, Content, Contains, Blank, Foreign, Damaged, Keeps, frames_of, next_frame}
 use Rattle.rep_ledger.proofs.Nexts.{origin, IsLineOf-next}
-use Rattle.rep_ledger.proofs.LedgerLemmas.{IsFounded-next, IsNextLine-frame, begun_of, founded_of, frames_of-push, length-frames_of}
+use Rattle.rep_ledger.proofs.LedgerLemmas.{IsFounded-next, begun_of, founded_of, frames_of-push, length-frames_of}
 use Rattle.rep_ledger.proofs.SafetyLemmas.{founded_frames}
 
 -- a line is that of one record
@@ -88,7 +87,7 @@ one_ledger bytes h g one two =
     one_history (length h) h g refl (begun_of h one.founded) (begun_of g two.founded) (one_journal bytes (frames_of h) (frames_of g) one.journal two.journal)
 
 -- what stands behind adds frames behind
-frames_behind : (front behind : List Entry) → (rest : List Framed) × (frames_of (front ++ behind) ≡ frames_of front ++ rest)
+pub frames_behind : (front behind : List Entry) → (rest : List Framed) × (frames_of (front ++ behind) ≡ frames_of front ++ rest)
 frames_behind front [] = ([], ap frames_of (append-nil front) ∙ sym (append-nil (frames_of front)))
 frames_behind front (e ∷ behind) =
     let more = frames_behind (front ++ e ∷ []) behind in (

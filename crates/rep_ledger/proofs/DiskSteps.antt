@@ -1,8 +1,8 @@
 -- What several calls of a disk do, one after another.
-use Rattle.std.proofs.Common.{◌≡◌, ℕ, suc, ◌<◌, ◌≤◌, ◌↔◌, inl, inr, List, Option, Some, None, refl, sym, subst, ◌∙◌, arith}
+use Rattle.std.proofs.Common.{◌≡◌, ℕ, ◌<◌, ◌≤◌, ◌↔◌, inl, inr, List, Option, Some, None, refl, sym, subst, ◌∙◌, arith}
 use Rattle.std.proofs.lemmas.Bool.{cases_lt}
 use Rattle.std.specs.Prelude.{IfSome}
-use Rattle.rep_disk.specs.Disk.{Shown, IsAtRest, IsOwnImage, IsUntouched, Moved, Same, Stays, Stayed, last_moment}
+use Rattle.rep_disk.specs.Disk.{Shown, Changes, IsAtRest, IsOwnImage, IsUntouched, Moved, Same, Stays, Stayed, last_moment}
 use Rattle.rep_journal.specs.State.{IsKeptBy, IsRead}
 use Rattle.rep_journal.specs.Recovery.{RestsFrom}
 
@@ -73,6 +73,24 @@ pub IfSome-weaker : {X : Type 0} (o : Option X) (P Q : X → Type 0) → ((x : X
 IfSome-weaker None P Q weaker holds = tt
 IfSome-weaker (Some x) P Q weaker holds = weaker x holds
 
+-- what holds of a value that is told by one word and by another holds of it by both
+pub IfSome-both : {X : Type 0} (o : Option X) (P Q R : X → Type 0) → ((x : X) → P x → Q x → R x) → IfSome o P → IfSome o Q → IfSome o R
+IfSome-both None P Q R both one two = tt
+IfSome-both (Some x) P Q R both one two = both x one two
+
+-- a step of contents that are told is one by a weaker word
+pub Changes-weaker : (old new : Option (List ℕ)) (P Q : List ℕ → List ℕ → Type 0) → ((a b : List ℕ) → old ≡ Some a → P a b → Q a b) → Changes P old new → Changes Q old new
+Changes-weaker None None P Q weaker changes = tt
+Changes-weaker None (Some new) P Q weaker changes = absurd changes
+Changes-weaker (Some old) None P Q weaker changes = absurd changes
+Changes-weaker (Some old) (Some new) P Q weaker changes = weaker old new refl changes
+
+-- the only image stays the only one
+only_along : (old new : Option (List ℕ)) (P Q : Type 0) (image : List ℕ) → old ≡ new → Q ↔ P → IfSome old (λ bytes. P ↔ image ≡ bytes) → IfSome new (λ bytes. Q ↔ image ≡ bytes)
+only_along old new P Q image same leaves only =
+    subst (λ o. IfSome o (λ bytes. Q ↔ image ≡ bytes)) same
+    (IfSome-weaker old (λ bytes. P ↔ image ≡ bytes) (λ bytes. Q ↔ image ≡ bytes) (λ bytes one. both_on leaves one) only)
+
 own_along : (a b : Shown) → a.moment ≡ b.moment → a.contents ≡ b.contents → ((m : ℕ) (image : List ℕ) → a.may_leave m image → b.may_leave m image) → IsOwnImage a → IsOwnImage b
 own_along a b same contents along own below =
     subst (λ o. IfSome o (b.may_leave b.moment)) contents
@@ -98,27 +116,41 @@ IsRead-untouched a b same = record {
 
 -- a disk at rest stays so by what is no device call
 pub IsAtRest-untouched : (a b : Shown) → IsAtRest a → IsUntouched a b → IsAtRest b
-IsAtRest-untouched a b rest same below image leaves =
-    subst (λ o. IfSome o (λ bytes. image ≡ bytes)) (sym same.contents)
-    (rest (subst (λ n. n < last_moment) same.moment below) image
-    (subst (λ n. a.may_leave n image) same.moment ((same.images b.moment image).0 leaves)))
+IsAtRest-untouched a b rest same below image =
+    let leaves = subst (λ n. b.may_leave b.moment image ↔ a.may_leave n image) same.moment (same.images b.moment image) in
+    only_along a.contents b.contents _ _ image (sym same.contents) leaves (rest (subst (λ n. n < last_moment) same.moment below) image)
 
 -- a disk at rest stays so when it is read
+pub IsAtRest-read : (a b : Shown) → IsAtRest a → IsRead a b → IsAtRest b
+IsAtRest-read a b rest read below image =
+    only_along a.contents b.contents _ _ image (sym read.contents)
+    (Stayed-at a b (read.crash below) b.moment image read.later (omega arith)) (rest (omega (arith, read.later)) image)
+
 pub RestsFrom-read : (from : ℕ) (a b : Shown) → RestsFrom from a → IsRead a b → RestsFrom from b
 RestsFrom-read from a b rests read below =
     let stayed = read.crash below in
     let before = rests (omega (arith, read.later)) in (
       omega (arith, read.later, before.0),
-      λ m image late within leaves.
-          subst (λ o. IfSome o (λ bytes. image ≡ bytes)) (sym read.contents)
-          (elim (cases_lt a.moment m) [
-            | inl after ↦ before.1 a.moment image before.0 (omega arith) ((stayed.images m image after within).0 leaves)
-            | inr soon ↦ before.1 m image late soon ((stayed.past m image soon).0 leaves)
-          ]),
+      λ m image late within. elim (cases_lt a.moment m) [
+        | inl after ↦
+            only_along a.contents b.contents _ _ image (sym read.contents) (stayed.images m image after within)
+            (before.1 a.moment image before.0 (omega arith))
+        | inr soon ↦ only_along a.contents b.contents _ _ image (sym read.contents) (stayed.past m image soon) (before.1 m image late soon)
+      ],
     )
 
 pub IsAtRest-rests : (from : ℕ) (s : Shown) → RestsFrom from s → IsAtRest s
-IsAtRest-rests from s rests below image leaves = let at = rests below in at.1 s.moment image at.0 (omega arith) leaves
+IsAtRest-rests from s rests below image = let at = rests below in at.1 s.moment image at.0 (omega arith)
+
+-- what a crash leaves of a disk at rest is what it tells
+pub image_at_rest : (s : Shown) → IsAtRest s → s.moment < last_moment → (image : List ℕ) → s.may_leave s.moment image → IfSome s.contents (λ bytes. image ≡ bytes)
+image_at_rest s rest below image leaves =
+    IfSome-weaker s.contents (λ bytes. s.may_leave s.moment image ↔ image ≡ bytes) (λ bytes. image ≡ bytes) (λ bytes only. only.0 leaves) (rest below image)
+
+pub image_from_rest : (from : ℕ) (s : Shown) → RestsFrom from s → s.moment < last_moment → (m : ℕ) (image : List ℕ) → from ≤ m → m ≤ s.moment → s.may_leave m image → IfSome s.contents (λ bytes. image ≡ bytes)
+image_from_rest from s rests below m image late within leaves =
+    IfSome-weaker s.contents (λ bytes. s.may_leave m image ↔ image ≡ bytes) (λ bytes. image ≡ bytes) (λ bytes only. only.0 leaves)
+    ((rests below).1 m image late within)
 
 -- contents and images are as before or a sync made sure of them, and then the disk was read
 pub IsKeptBy-read : (a b c : Shown) → IsKeptBy a b → IsRead b c → IsKeptBy a c

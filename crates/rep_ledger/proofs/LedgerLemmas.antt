@@ -1,15 +1,13 @@
 -- The frames of a history, one entry on.
-use Rattle.std.proofs.Common.{◌≡◌, ℕ, suc, ◌+◌, ◌<◌, List, [], ◌∷◌, ◌++◌, length, get_or, take, drop, Some, refl, sym, ap, subst, ◌∙◌, arith, length-append, slice_get}
-use Rattle.std.proofs.lemmas.Option.{slice_get-get_or}
+use Rattle.std.proofs.Common.{◌≡◌, ℕ, suc, ◌<◌, List, [], ◌∷◌, ◌++◌, length, refl, sym, ap, subst, ◌∙◌, arith}
 use Rattle.rep_wire.specs.declared.request.Entry.{Entry}
 use Rattle.rep_core.specs.Chained.{history_lines, next_line}
-use Rattle.rep_core.specs.Valid.{Fits, IsFounded}
+use Rattle.rep_core.specs.Valid.{IsFounded}
 use Rattle.rep_core.proofs.Lines.{history_lines-push, length-history_lines}
-use Rattle.rep_core.proofs.Splits.{split_of}
 use Rattle.rep_core.proofs.Validity.{IsFounded-first, IsFounded-push}
-use Rattle.rep_journal.specs.Format.{Framed, end_of, gate_at}
+use Rattle.rep_journal.specs.Format.{Framed}
 use Rattle.rep_ledger.specs.Fitting.{FitsAt, IsEmptyOrFounded, IsNextLine}
-use Rattle.rep_ledger.specs.Ledger.{frame_with, frames_with, frames_of, next_frame, MisfitAmong}
+use Rattle.rep_ledger.specs.Ledger.{frame_with, frames_with, frames_of, next_frame}
 
 -- one entry more with one line more is one frame more
 frames_with-push : (h : List Entry) (lines : List (List ℕ)) (e : Entry) (line : List ℕ) → length lines ≡ length h → frames_with (h ++ e ∷ []) (lines ++ line ∷ []) ≡ frames_with h lines ++ frame_with e line ∷ []

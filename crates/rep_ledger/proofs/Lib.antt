@@ -4,3 +4,5 @@ pub mod DiskSteps
 pub mod ReplaySteps
 pub mod SafetyLemmas
 pub mod ContentLemmas
+mod TextLemmas
+pub mod LeavingLemmas

@@ -1,5 +1,5 @@
 -- The frames of a journal, taken in one after another.
-use Rattle.std.proofs.Common.{◌≡◌, ℕ, suc, ◌+◌, ◌<◌, ◌≤◌, List, [], ◌∷◌, ◌++◌, length, get_or, take, drop, Option, Some, refl, sym, ap, subst, ◌∙◌, arith, length-append, slice_get}
+use Rattle.std.proofs.Common.{◌≡◌, ℕ, suc, ◌+◌, ◌<◌, ◌≤◌, List, [], ◌∷◌, ◌++◌, length, take, drop, Some, refl, sym, ap, subst, ◌∙◌, arith, length-append, slice_get}
 use Rattle.std.proofs.Math.Seq.{take-suc}
 use Rattle.std.proofs.lemmas.List.{take_all}
 use Rattle.std.proofs.lemmas.Option.{get_or_from_slice_get}
@@ -10,11 +10,11 @@ use Rattle.rep_wire.specs.declared.request.Entry.{Entry}
 use Rattle.rep_core.specs.Core.{Kept, Stands}
 use Rattle.rep_core.specs.Valid.{IsFounded}
 use Rattle.rep_core.proofs.Splits.{split_of}
-use Rattle.rep_core.proofs.Standing.{Stands-own, entries_of}
+use Rattle.rep_core.proofs.Standing.{entries_of}
 use Rattle.rep_journal.specs.Format.{Framed, end_of, gate_at}
 use Rattle.rep_journal.specs.State.{State, IsRead}
-use Rattle.rep_ledger.specs.Fitting.{FitsAt, IsEmptyOrFounded, IsNextLine}
-use Rattle.rep_ledger.specs.Ledger.{frames_of, next_frame, MisfitAmong}
+use Rattle.rep_ledger.specs.Fitting.{IsEmptyOrFounded, IsNextLine}
+use Rattle.rep_ledger.specs.Ledger.{frames_of, MisfitAmong}
 use Rattle.rep_ledger.specs.Replaying.{IsReplayed}
 use Rattle.rep_ledger.proofs.LedgerLemmas.{IsFounded-next, IsNextLine-frame, begun_of, founded_of, frames_of-push, next_frame-is}
 use Rattle.rep_ledger.proofs.DiskSteps.{IsRead-refl, IsRead-trans}
@@ -31,6 +31,7 @@ IsReplayed-start shown core journal stands limit =
       frames = refl;
       faults = refl;
       disk = IsRead-refl (shown journal.disk);
+      no_fault = refl;
     }
 
 -- the frame that a told disk gives is the next one
@@ -50,8 +51,8 @@ module _ {D : Type 0} (shown : D → Shown) (i : ℕ) (core : Kept) (old now : S
   inside_old = omega (arith, ap length before.frames)
 
   -- one frame more is taken in
-  pub IsReplayed-step : (core' : Kept) (new : State D) (e : Entry) → new.frames ≡ now.frames → new.faults ≡ now.faults → IsRead (shown now.disk) (shown new.disk) → IsNextLine core.entries frame.origin frame.seq frame.line e → Stands core' (core.entries ++ e ∷ []) → core'.limit ≡ core.limit → IsReplayed shown (i + 1) core' old new
-  IsReplayed-step core' new e frames faults read next stands limit =
+  pub IsReplayed-step : (core' : Kept) (new : State D) (e : Entry) → new.frames ≡ now.frames → new.faults ≡ now.faults → IsRead (shown now.disk) (shown new.disk) → (shown new.disk).faults ≡ (shown now.disk).faults → IsNextLine core.entries frame.origin frame.seq frame.line e → Stands core' (core.entries ++ e ∷ []) → core'.limit ≡ core.limit → IsReplayed shown (i + 1) core' old new
+  IsReplayed-step core' new e frames faults read no_fault next stands limit =
       let entries = entries_of core' (core.entries ++ e ∷ []) stands in
       record {
         limit = limit ∙ before.limit;
@@ -66,6 +67,7 @@ module _ {D : Type 0} (shown : D → Shown) (i : ℕ) (core : Kept) (old now : S
         frames = frames ∙ before.frames;
         faults = faults ∙ before.faults;
         disk = IsRead-trans (shown old.disk) (shown now.disk) (shown new.disk) before.disk read;
+        no_fault = no_fault ∙ before.no_fault;
       }
 
   -- the frame is of no entry that can stand next

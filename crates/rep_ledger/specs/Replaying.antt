@@ -7,7 +7,7 @@ use Rattle.rep_journal.specs.State.{State, IsRead}
 use Rattle.rep_ledger.specs.Fitting.{IsEmptyOrFounded}
 use Rattle.rep_ledger.specs.Ledger.{frames_of}
 
--- the core stands for the history of the first frames, and the journal was read at most
+-- the core stands for the history of the first frames, and the journal was read at most, without a fault
 pub record IsReplayed {D : Type 0} (shown : D → Shown) (taken : ℕ) (core : Kept) (old new : State D) : Type 0 where
   pub limit : core.limit ≡ last_nsr
   pub begun : IsEmptyOrFounded core.entries
@@ -16,3 +16,4 @@ pub record IsReplayed {D : Type 0} (shown : D → Shown) (taken : ℕ) (core : K
   pub frames : new.frames ≡ old.frames
   pub faults : new.faults ≡ old.faults
   pub disk : IsRead (shown old.disk) (shown new.disk)
+  pub no_fault : (shown new.disk).faults ≡ (shown old.disk).faults

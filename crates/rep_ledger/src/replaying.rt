@@ -1,5 +1,5 @@
 //! The history that a journal keeps.
-ghost use Rattle.std.specs.Prelude.{◌≡◌, ℕ, ◌≤◌, List, length, IfOk, IsSome};
+ghost use Rattle.std.specs.Prelude.{◌≡◌, ◌≢◌, ℕ, ◌≤◌, List, length, IfOk, IsSome};
 ghost use Rattle.rep_io.specs.Causes.{Rose};
 ghost use Rattle.afd_records.specs.Record.{last_nsr};
 ghost use Rattle.rep_wire.specs.declared.request.Entry.{Entry as TheEntry};
@@ -36,7 +36,7 @@ pub enum NotReplayed {
 /// # Errors
 ///
 /// `Misfit` exactly where a frame is of no entry that can stand there, over a disk that tells its contents; it names the
-/// place of the first such frame's gate. `DeviceFault` only where the disk failed in this call. `OutOfMemory`.
+/// place of the first such frame's gate. `DeviceFault` exactly where the disk failed in this call. `OutOfMemory`.
 pub fn replay<D: Disk>(alloc: Global, journal: &mut Journal<D>) -> Result<Core, NotReplayed>
     requires { 1 ≤ length journal.old.frames }
     ensures founded { IfOk result (λ core. (h : List TheEntry) → Stands core h → IsFounded h) }
@@ -48,6 +48,8 @@ pub fn replay<D: Disk>(alloc: Global, journal: &mut Journal<D>) -> Result<Core, 
         → IsSome (D.shown journal.old.disk).contents → MisfitAmong journal.old.frames at }
     ensures device_fault { result ≡ Err NotReplayed.DeviceFault
         → Rose (D.shown journal.old.disk).faults (D.shown journal.new.disk).faults }
+    ensures no_fault { result ≢ Err NotReplayed.DeviceFault
+        → (D.shown journal.new.disk).faults ≡ (D.shown journal.old.disk).faults }
     ensures frames { journal.new.frames ≡ journal.old.frames }
     ensures faults { IfOk result (λ core. journal.new.faults ≡ journal.old.faults) }
     ensures disk { IsRead (D.shown journal.old.disk) (D.shown journal.new.disk) }

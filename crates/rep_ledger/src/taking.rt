@@ -102,12 +102,15 @@ fn request_of(count: u32, entry: &Entry) -> Option<Request>
     }
 }
 
-// Whether the request is to be recorded.
+// Whether the request is to be recorded. It isn't where an entry came by its pair, whatever that entry says.
 fn is_fresh(core: &Core, q: &Request) -> bool
     ensures { (h : List TheEntry) → Stands core.now h
         → IsTrue result ↔ IsVerdict core.now.limit h q.now Verdict.Fresh }
 {
-    match core.decide(q, core.kept(q)) {
+    if let Some(_) = core.find(q.origin, q.seq) {
+        return false;
+    }
+    match core.decide(q, None) {
         Verdict::Fresh => true,
         Verdict::Repeat { .. }
         | Verdict::Conflict { .. }

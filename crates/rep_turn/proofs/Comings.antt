@@ -11,7 +11,7 @@ use Rattle.atomic_table.proofs.Lists.{at_set, at_snoc, set_else, exchanged}
 use Rattle.rep_turn.specs.declared.note.Seen as log
 use Rattle.rep_turn.specs.declared.view.Token.{Token}
 use Rattle.rep_turn.specs.declared.view.View.{View}
-use Rattle.rep_turn.specs.Log.{Meaning, Begins, entries, own, made_of}
+use Rattle.rep_turn.specs.Log.{Meaning, Begins, AllOwnedBelow, entries, own, made_of}
 use Rattle.rep_turn.specs.Views.{total, times, one_if, holder, IsFree, first_view, unnumbered, numbered, joining, spent_view, token, longer_seen}
 use Rattle.rep_turn.specs.Rule.{IsUnder, Knows, IsOrderly}
 use Rattle.rep_turn.specs.Plays.{drew, sat}
@@ -348,10 +348,12 @@ module _ {B E : Type 0} (meaning : B → Meaning E) (first : B) (bound : ℕ) wh
       live_or_spent true f t = t refl
       live_or_spent false f t = f refl
 
-  -- The last state: the guarded state is at home, with the base and the start of the first one, and keeps all that was gathered
+  -- The last state: the guarded state is at home, with the base and the start of the first one, and keeps all that was gathered.
+  -- The owners of its notes are participants.
   pub record Ends (gathered : List (Token E)) (state : B) : Type 0 where
     pub same_base : (meaning state).base ≡ (meaning first).base
     pub same_start : (meaning state).start ≡ (meaning first).start
+    pub owners : AllOwnedBelow bound (meaning state).seen.notes
     pub kept : (i : ℕ) (t : Token E) → get_elem? gathered i ≡ some t → IsKeptIn meaning state t
 
   pub closes : (id : ℕ) (v : View E) (ws : List ℕ) (xs : List (Option B)) → v.spent ≡ false → v.holds ≡ false → length v.numbers ≡ bound → Final (Seen Good id v) ws xs
@@ -368,6 +370,7 @@ module _ {B E : Type 0} (meaning : B → Meaning E) (first : B) (bound : ℕ) wh
         record {
           same_base = h.same_base;
           same_start = h.same_start;
+          owners = λ k above. ap (λ (x : log.Seen E). own k x.notes) h.shows ∙ o.owners k (let within = o.within in omega arith);
           kept = λ i t e. let g = (kn.gathers i t e).0 in record {
             begins = subst (Begins t.seen) (sym h.shows) g.begins;
             own_seen = g.own_seen ∙ sym (ap (λ (x : log.Seen E). own t.number x.notes) h.shows);

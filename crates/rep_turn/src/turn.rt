@@ -49,7 +49,7 @@ pub struct Closed<B: Held> {
 }
 
 impl<B: Held> Turn<B> {
-    ghost use Rattle.rep_turn.specs.Log.{Begins, entries};
+    ghost use Rattle.rep_turn.specs.Log.{Begins, AllOwnedBelow, entries};
     ghost use Rattle.rep_turn.specs.Views.{first_view};
     ghost use Rattle.rep_turn.specs.Tokens.{IsOf, Steps, IsKeptIn, AreNumberedBelow, HasSeenOnly};
     ghost use Rattle.rep_turn.specs.Tokens.{number_of, seen_by, notes_seen, front_of, token_of};
@@ -186,13 +186,15 @@ impl<B: Held> Turn<B> {
         count
     }
 
-    /// Ends the guard. The tokens keep what their participants have seen.
+    /// Ends the guard. The tokens keep what their participants have seen, and each note in the state's log is of one
+    /// of these participants.
     pub fn close(self, mut passes: Vec<Pass<B::Entry>>) -> Closed<B>
         requires count { vec_len passes ≡ self.participants }
         requires of { All (IsOf B.meaning self) passes.items }
         ensures base { (B.meaning result.book).base ≡ (B.meaning self.first).base }
         ensures start { (B.meaning result.book).start ≡ (B.meaning self.first).start }
         ensures passes { map token_of result.passes.items ≡ map token_of passes.items }
+        ensures owners { AllOwnedBelow self.participants (B.meaning result.book).seen.notes }
         ensures kept { All (IsKeptIn B.meaning result.book) (map token_of passes.items) }
     {
         let mut seat = self.table.shared.load_new_seat::<Sit>(0).1;

@@ -1,7 +1,7 @@
-use Rattle.std.proofs.Common.{false, arith}
+use Rattle.std.proofs.Common.{◌∙◌, false, arith}
 use Rattle.afd_records.specs.File.{ended}
 use Rattle.afd_extract.specs.declared.error.WriteFail.TheVariants.{DeviceFault, SinkFault}
-use Rattle.afd_extract.proofs.Fronts.{Puts-err, Puts-ok}
+use Rattle.afd_extract.proofs.Fronts.{HasCause-ok, Puts-err, Puts-ok}
 use Rattle.afd_extract.proofs.Frames.{HasPut-more, PutsFrames-unput, PutsFrames-unread, found_before}
 use Rattle.afd_extract.proofs.Reading.{IsSame-trans}
 use Rattle.afd_extract.proofs.writing.put_frames.Goals as goal
@@ -34,5 +34,5 @@ loop-place-preserved g c =
           c.line-bytes.ensures.line
           (Puts-ok _ _ c.loop-place.held c.put_line.new.held (ended c.line-bytes.result.now) c.put_line.result (cc) c.put_line.ensures.bytes)
           c.add.ensures;
-      later = omega (arith, c.loop-place.invariant.later, c.put_line.ensures.cause.later);
+      sink = HasCause-ok _ _ c.put_line.result (cc) c.put_line.ensures.cause ∙ c.loop-place.invariant.sink;
     }

@@ -1,4 +1,4 @@
-use Rattle.std.proofs.Common.{◌≤◌, ◌-◌, false}
+use Rattle.std.proofs.Common.{◌≡◌, ◌≤◌, ◌-◌, false}
 use Rattle.std.specs.Prelude.{IsSome}
 use Rattle.rep_journal.specs.State.{IsSame}
 use Rattle.afd_extract.specs.Steps.{HasPut}
@@ -11,7 +11,7 @@ invariant-loop-place g l = record {
   same : IsSame g.D.Disk.shown false l.fn.journal l.journal;
   so_far : HasPut l.fn.journal.frames l.begin l.place (IsSome (g.D.Disk.shown l.fn.journal.disk).contents) (g.K.Sink.written l.fn.sink)
       (g.K.Sink.written l.sink) l.fn.held l.held l.tally;
-  later : g.K.Sink.faults l.fn.sink ≤ g.K.Sink.faults l.sink;
+  sink : g.K.Sink.faults l.sink ≡ g.K.Sink.faults l.fn.sink;
 }
 
 abbrev pub decreases-loop-place : goal.decreases-loop-place

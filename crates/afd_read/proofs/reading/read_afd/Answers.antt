@@ -4,7 +4,8 @@ use Rattle.rep_io.specs.Lines.{lines_of}
 use Rattle.afd_read.specs.Beginning.{IsHeadLine, IsHeadOf}
 use Rattle.afd_read.specs.Filling.{first_of, IsRefusalOf}
 use Rattle.afd_read.specs.Index.{bounds_of}
-use Rattle.afd_read.proofs.BeginningLemmas.{refusal_says, later_says, kept_from, taken_whole, taken_limit}
+use Rattle.afd_read.proofs.BeginningLemmas.{refusal_says, head_told, later_says, kept_from, taken_whole, taken_limit}
+use Rattle.afd_read.proofs.FillingLemmas.{taken_none}
 use Rattle.afd_read.proofs.reading.read_afd.Goals as goal
 
 pub returns-in_err-head-clause-says : goal.returns-in_err-head-clause-says
@@ -61,3 +62,35 @@ returns-clause-begins g c =
     (subst (λ (bytes : List ℕ). IsHeadLine c.in_ok-head.head (first_of (lines_of bytes))) c.deref.ensures.value c.in_ok-head.ensures.head)
     (c.in_ok-bounds.ensures ∙ ap bounds_of c.deref-2.ensures.value) in
     (c.in_ok-head.head, subst (λ (text : List ℕ). IsHeadOf text c.in_ok-head.head) (sym c.keep.ensures) kept.begins)
+
+pub returns-in_err-piece-clause-no_further : goal.returns-in_err-piece-clause-no_further
+returns-in_err-piece-clause-no_further g c text told none = taken_none _
+
+pub returns-in_err-fill_rest-clause-no_further : goal.returns-in_err-fill_rest-clause-no_further
+returns-in_err-fill_rest-clause-no_further g c text told none =
+    let head : IsHeadLine c.in_ok-head.head (first_of (lines_of c.fill_first.new.bytes.items)) =
+    subst (λ (bytes : List ℕ). IsHeadLine c.in_ok-head.head (first_of (lines_of bytes))) c.deref.ensures.value
+    c.in_ok-head.ensures.head in
+    absurd (none c.in_ok-head.head (head_told _ _ _ _ c.in_ok-ended.ensures.fills c.in_ok-head.head head text told))
+
+pub returns-in_err-bounds-clause-no_further : goal.returns-in_err-bounds-clause-no_further
+returns-in_err-bounds-clause-no_further g c text told none =
+    let head : IsHeadLine c.in_ok-head.head (first_of (lines_of c.fill_first.new.bytes.items)) =
+    subst (λ (bytes : List ℕ). IsHeadLine c.in_ok-head.head (first_of (lines_of bytes))) c.deref.ensures.value
+    c.in_ok-head.ensures.head in
+    absurd (none c.in_ok-head.head (head_told _ _ _ _ c.in_ok-ended.ensures.fills c.in_ok-head.head head text told))
+
+pub returns-clause-no_further : goal.returns-clause-no_further
+returns-clause-no_further g c text told none =
+    let head : IsHeadLine c.in_ok-head.head (first_of (lines_of c.fill_first.new.bytes.items)) =
+    subst (λ (bytes : List ℕ). IsHeadLine c.in_ok-head.head (first_of (lines_of bytes))) c.deref.ensures.value
+    c.in_ok-head.ensures.head in
+    absurd (none c.in_ok-head.head (head_told _ _ _ _ c.in_ok-ended.ensures.fills c.in_ok-head.head head text told))
+
+pub returns-in_err-fill_rest-clause-no_fault : goal.returns-in_err-fill_rest-clause-no_fault
+returns-in_err-fill_rest-clause-no_fault g c other =
+    let p = err_from_is_err_and c.from_residual-in_err-fill_rest.result c.from_residual-in_err-fill_rest.ensures.1 in
+    let given = p.1 in
+    let same = p.2 in
+    c.in_err-fill_rest.ensures.no_fault (λ is. other (cc (given, same, is)))
+    ∙ c.in_ok-ended.ensures.no_fault (λ is. absurd cc)

@@ -1,9 +1,10 @@
 use Rattle.std.proofs.Common.{◌≡◌, ◌+◌, List, ℕ, [], ◌∷◌, ◌++◌, length, subst, ◌∙◌, arith}
-use Rattle.rep_disk.specs.Disk.{Changes, Torn, Written, Moves}
+use Rattle.rep_disk.specs.Disk.{Changes, Torn, Written, Moves, written_by_name}
 use Rattle.rep_journal.specs.Format.{open_gate, frame_text, end_of, Framed}
-use Rattle.rep_journal.specs.Putting.{FailsToWrite, WritesSurely}
-use Rattle.rep_journal.proofs.PutLemmas.{is_staged, appends, leaves, fails, fails_early, err_only, ok_none, calls_of, failed_calls, more_calls, calls_within}
+use Rattle.rep_journal.specs.Putting.{FailsToWrite, NamesUntilSure, OpensUntilSure, WritesSurely}
+use Rattle.rep_journal.proofs.PutLemmas.{is_staged, appends, leaves, fails, fails_early, err_only, ok_none, err_match, calls_of, failed_calls, more_calls, calls_within}
 use Rattle.rep_journal.proofs.MomentLemmas.{staged_moments, opened_moments}
+use Rattle.rep_journal.proofs.GateLemmas.{never_opens, opens_gate}
 use Rattle.rep_journal.proofs.putting.append.Given.{Over}
 use Rattle.rep_journal.proofs.putting.append.Goals as goal
 
@@ -32,6 +33,13 @@ returns-in_err-write_and_sync-clause-crash g c =
     staged_moments frames c.args.frame.now (length c.bytes.result.now) (g.D.Disk.shown c.args.disk.now) (g.D.Disk.shown c.write_and_sync.new.disk) told stands rest
     (subst (λ (n : ℕ). Moves (Torn (n + 1) (length c.bytes.result.now)) (g.D.Disk.shown c.args.disk.now) (g.D.Disk.shown c.write_and_sync.new.disk)) is c.write_and_sync.ensures.crash)
     calls.0 calls.1 before
+
+pub returns-in_err-write_and_sync-clause-at_gate : goal.returns-in_err-write_and_sync-clause-at_gate
+returns-in_err-write_and_sync-clause-at_gate g c =
+    λ frames is stands.
+    err_match c.from_residual.result _ _ c.from_residual.ensures.0
+    (never_opens frames c.args.frame.now (g.D.Disk.shown c.args.disk.now) (g.D.Disk.shown c.write_and_sync.new.disk) c.write_and_sync.result
+    (calls_of (c.args.end + 1) c.bytes.result.now (g.D.Disk.shown c.args.disk.now) (g.D.Disk.shown c.write_and_sync.new.disk) c.write_and_sync.result c.write_and_sync.ensures.writes) (g.D.Disk.shown c.args.disk.now).contents)
 
 -- the frame was written where it belongs, with a closed gate
 staged : (g : Over) (c : goal.After-write_and_sync-2 g) (frames : List Framed) → c.args.end ≡ end_of frames
@@ -77,3 +85,13 @@ returns-clause-crash g c =
     (omega arith) (omega arith) mid.0 mid.1 c.in_ok-write_and_sync.ensures.rest
     (subst (λ (n : ℕ). Moves (Torn n 1) (g.D.Disk.shown c.write_and_sync.new.disk) (g.D.Disk.shown c.write_and_sync-2.new.disk)) is c.write_and_sync-2.ensures.crash)
     later.0 before
+
+pub returns-clause-at_gate : goal.returns-clause-at_gate
+returns-clause-at_gate g c =
+    λ frames is stands.
+    opens_gate frames c.args.frame.now (g.D.Disk.shown c.args.disk.now) (g.D.Disk.shown c.write_and_sync.new.disk) (g.D.Disk.shown c.write_and_sync-2.new.disk) stands (staged g c frames is) c.in_ok-write_and_sync.ensures.writes.0
+    c.in_ok-write_and_sync.ensures.rest c.in_ok-write_and_sync.ensures.named
+    (subst (λ (n : ℕ). Moves (Torn n 1) (g.D.Disk.shown c.write_and_sync.new.disk) (g.D.Disk.shown c.write_and_sync-2.new.disk)) is c.write_and_sync-2.ensures.crash) c.write_and_sync-2.result
+    (calls_of c.args.end (open_gate ∷ []) (g.D.Disk.shown c.write_and_sync.new.disk) (g.D.Disk.shown c.write_and_sync-2.new.disk) c.write_and_sync-2.result c.write_and_sync-2.ensures.writes)
+    (subst (λ (n : ℕ). OpensUntilSure (Torn n 1) (g.D.Disk.shown c.write_and_sync.new.disk) (g.D.Disk.shown c.write_and_sync-2.new.disk) c.write_and_sync-2.result) is c.write_and_sync-2.ensures.opens)
+    (subst (λ (n : ℕ). NamesUntilSure (written_by_name n (open_gate ∷ [])) (g.D.Disk.shown c.write_and_sync.new.disk) (g.D.Disk.shown c.write_and_sync-2.new.disk) c.write_and_sync-2.result) is c.write_and_sync-2.ensures.names)

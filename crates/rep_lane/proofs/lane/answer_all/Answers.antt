@@ -10,8 +10,8 @@ use Rattle.rep_lane.proofs.lane.answer_all.Goals as goal
 pub answers-init : goal.answers-init
 answers-init g c = (
   start g.S.Source.left (steps_of g.Q.Desk.asks g.Q.Desk.extracts g.Q.Desk.shows) c.args.head.now c.args.first c.args.lines.now c.args.desk.now _,
-  omega arith,
-  omega arith,
+  refl,
+  refl,
   omega arith,
   λ none. refl,
 )
@@ -38,15 +38,13 @@ count-requires-clause-refused g c =
 
 pub answers-preserved : goal.answers-preserved
 answers-preserved g c =
-    let source : g.S.Source.faults c.args.lines.now.source ≤ g.S.Source.faults c.answers.lines.source = c.answers.invariant.1 in
-    let sink : g.K.Sink.faults c.args.sink.now ≤ g.K.Sink.faults c.answers.sink = c.answers.invariant.2 in
-    let source_next : g.S.Source.faults c.answers.lines.source ≤ g.S.Source.faults c.answer_next.new.lines.source = c.answer_next.ensures.source_later in
-    let sink_next : g.K.Sink.faults c.answers.sink ≤ g.K.Sink.faults c.answer_next.new.sink = c.answer_next.ensures.sink_later in (
+    let source_next : g.S.Source.faults c.answer_next.new.lines.source ≡ g.S.Source.faults c.answers.lines.source = c.in-Ok.ensures.no_source_fault (λ other. cc) in
+    let sink_next : g.K.Sink.faults c.answer_next.new.sink ≡ g.K.Sink.faults c.answers.sink = c.in-Ok.ensures.no_sink_fault (λ other. cc) in (
       goes_on g.S.Source.left (steps_of g.Q.Desk.asks g.Q.Desk.extracts g.Q.Desk.shows) c.args.head.now c.args.first c.answers.number c.args.lines.now c.answers.lines c.args.desk.now c.answers.desk _ _
           c.answers.tally c.answers.invariant.0 c.answer_next.new.lines c.answer_next.new.desk _ c.in-Ok.kind c.count.new.self c.in-Ok.ensures.takes
           (record { lines = c.count.ensures.lines; receipts = c.count.ensures.receipts; refused = c.count.ensures.refused }),
-      omega arith,
-      omega arith,
+      source_next ∙ c.answers.invariant.1,
+      sink_next ∙ c.answers.invariant.2,
       (let u = c.answers.invariant.0 in
           let is : c.answers.tally.lines ≡ length u.answers = u.tally_is.lines in
           let counted : c.count.new.self.lines ≡ c.answers.tally.lines + 1 = c.count.ensures.lines in
@@ -67,3 +65,9 @@ returns-in-Err-clause-few g c = let few : c.answers.tally.lines ≤ longest_text
 
 pub returns-in-Err-clause-untouched : goal.returns-in-Err-clause-untouched
 returns-in-Err-clause-untouched g c none other device = c.in-Err.ensures.untouched other device ∙ c.answers.invariant.4 none
+
+pub returns-in-Err-clause-no_source_fault : goal.returns-in-Err-clause-no_source_fault
+returns-in-Err-clause-no_source_fault g c other = c.in-Err.ensures.no_source_fault (λ same. other (cc)) ∙ c.answers.invariant.1
+
+pub returns-in-Err-clause-no_sink_fault : goal.returns-in-Err-clause-no_sink_fault
+returns-in-Err-clause-no_sink_fault g c other = c.in-Err.ensures.no_sink_fault (λ same. other (cc)) ∙ c.answers.invariant.2

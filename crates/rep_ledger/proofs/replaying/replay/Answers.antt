@@ -1,4 +1,4 @@
-use Rattle.std.proofs.Common.{◌≡◌, length, Err, ap, ◌∙◌, arith}
+use Rattle.std.proofs.Common.{◌≡◌, length, Err, refl, ap, ◌∙◌, arith}
 use Rattle.rep_journal.specs.Format.{gate_at}
 use Rattle.rep_ledger.proofs.LedgerLemmas.{IsNextLine-read, IsNextLine-unread}
 use Rattle.rep_core.proofs.Standing.{Stands-own}
@@ -16,7 +16,7 @@ loop-i-preserved g c =
     let taken = c.in-Ok-take_in.ensures.taken core.entries (Stands-own core) in
     IsReplayed-step g.D.Disk.shown c.loop-i.i core c.args.journal.now c.loop-i.journal frame c.loop-i.invariant
     (omega (arith, c.count-count.ensures.count, ap length c.loop-i.invariant.frames)) c.in-Ok.ensures.frame
-    c.take_in.new.core c.frame.new.self taken.0 kept.frames kept.faults kept.disk
+    c.take_in.new.core c.frame.new.self taken.0 kept.frames kept.faults kept.disk (kept.no_fault refl)
     (IsNextLine-read core.entries frame _ _ _ taken.0 c.origin.ensures c.seq.ensures c.line.ensures.line taken.1) taken.2 c.take_in.ensures.limit
 
 pub returns-in-Err-Misfit-clause-misfit : goal.returns-in-Err-Misfit-clause-misfit

@@ -21,7 +21,7 @@ returns-clause-created g c =
       later = calls_later (calls_due c.vacant.inside.is_short) (g.D.Disk.shown c.vacant.inside.disk) (g.D.Disk.shown c.begin.new.disk) (of_ok c.begin.result _ _ ok c.begin.ensures.calls);
       calls = made_calls c.vacant.inside.is_short (g.D.Disk.shown c.vacant.inside.disk) (g.D.Disk.shown c.begin.new.disk) c.vacant.invariant.blank (of_ok c.begin.result _ _ ok c.begin.ensures.calls);
       own = c.begin.ensures.own;
-      disk_faults = c.begin.ensures.cause.later;
+      no_fault = of_ok c.begin.result _ _ ok c.begin.ensures.cause.kept;
     })
 
 pub returns-then-is_err-clause-device_fault : goal.returns-then-is_err-clause-device_fault

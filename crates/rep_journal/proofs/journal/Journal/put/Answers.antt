@@ -2,9 +2,9 @@ use Rattle.std.proofs.Common.{◌≡◌, ◌+◌, ◌-◌, ◌++◌, [], ◌∷�
 use Rattle.rep_disk.specs.Disk.{IsWithin}
 use Rattle.rep_journal.specs.State.{Appends, Becomes, Leaves, State}
 use Rattle.rep_journal.specs.Format.{Framed}
-use Rattle.rep_journal.specs.Recovery.{Puts}
+use Rattle.rep_journal.specs.Recovery.{OpensGate, Puts}
 use Rattle.rep_journal.proofs.PutLemmas.{within_journal}
-use Rattle.rep_journal.proofs.BlankLemmas.{of_ok}
+use Rattle.rep_journal.proofs.BlankLemmas.{of_err, of_ok}
 use Rattle.rep_journal.proofs.journal.Journal.put.Goals as goal
 
 pub append-requires-clause-within : goal.append-requires-clause-within
@@ -32,5 +32,17 @@ returns-clause-put g c =
       faults = refl;
       calls = of_ok c.append.result _ _ ok c.append.ensures.calls;
       own = c.append.ensures.own;
-      disk_faults = c.append.ensures.cause.later;
+      no_fault = of_ok c.append.result _ _ ok c.append.ensures.cause.kept;
     })
+
+pub returns-clause-at_gate : goal.returns-clause-at_gate
+returns-clause-at_gate g c =
+    subst (λ (s : State g.row.D.Denot). OpensGate s.frames c.args.frame.now (g.D.Disk.shown s.disk) (g.D.Disk.shown c.append.new.disk) ((g.D.Disk.shown s.disk).moment + 7)) c.self.view_is
+    (of_ok c.append.result _ _ (sym c.is_err.ensures.value ∙ c.if-is_err.false)
+    (c.append.ensures.at_gate c.self.inside.list.frames c.end.ensures.end c.self.invariant.settled.stands))
+
+pub returns-then-is_err-clause-at_gate : goal.returns-then-is_err-clause-at_gate
+returns-then-is_err-clause-at_gate g c =
+    subst (λ (s : State g.row.D.Denot). OpensGate s.frames c.args.frame.now (g.D.Disk.shown s.disk) (g.D.Disk.shown c.append.new.disk) (g.D.Disk.shown c.append.new.disk).moment) c.self.view_is
+    (of_err c.append.result _ _ (sym c.is_err.ensures.value ∙ c.if-is_err.true)
+    (c.append.ensures.at_gate c.self.inside.list.frames c.end.ensures.end c.self.invariant.settled.stands))

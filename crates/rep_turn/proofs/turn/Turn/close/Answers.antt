@@ -1,4 +1,5 @@
 use Rattle.std.proofs.Common.{rules, IsSome, subst, sym, ap, ◌∙◌, arith}
+use Rattle.rep_turn.specs.Log.{own}
 use Rattle.rep_turn.proofs.Comings.{sits}
 use Rattle.rep_turn.proofs.Sessions.{gathers_one, closed_with, same_state, all_kept}
 use Rattle.rep_turn.proofs.turn.Turn.close.Goals as goal
@@ -45,6 +46,15 @@ returns-clause-start g c =
     let e = closed_with g.B.Held.meaning key.0.value key.1 _ _ _ _ c.take-state.result i.live i.rests (omega (arith, i.numbers, i.some_left, bound, c.args.passes.ok.0)) c.close_with-closed.ensures.values.2 c.take-state.ensures.value in
     let same = same_state e.0 c.unwrap.result c.take-state.result e.1 c.unwrap.ensures in
     ap (λ b. (g.B.Held.meaning b).start) (sym same) ∙ (e.2.same_start ∙ ap (λ b. (g.B.Held.meaning b).start) first)
+
+pub returns-clause-owners : goal.returns-clause-owners
+returns-clause-owners g c = λ k above.
+    let i = c.loop-pass.invariant.gathered in
+    let key = c.self.inside.table.shared.key in
+    let bound = ap (λ s. s.participants) c.self.view_is in
+    let e = closed_with g.B.Held.meaning key.0.value key.1 _ _ _ _ c.take-state.result i.live i.rests (omega (arith, i.numbers, i.some_left, bound, c.args.passes.ok.0)) c.close_with-closed.ensures.values.2 c.take-state.ensures.value in
+    let same = same_state e.0 c.unwrap.result c.take-state.result e.1 c.unwrap.ensures in
+    ap (λ b. own k (g.B.Held.meaning b).seen.notes) (sym same) ∙ e.2.owners k (omega (arith, bound, above))
 
 pub returns-clause-kept : goal.returns-clause-kept
 returns-clause-kept g c =
