@@ -56,7 +56,7 @@ module _ {S K D C : Type 0} (m : Meanings S K D C) (from to : ℕ) (was now : S)
 
   rose_disk : Rose (m.shown store.disk).faults (m.shown store'.disk).faults → Rose (m.shown disk).faults (m.shown disk').faults
   rose_disk rose =
-      let later = opened.later in
+      let same = opened.no_fault in
       subst (λ (d : D). Rose (m.shown disk).faults (m.shown d).faults) (sym is_disk) (omega arith)
 
   pub leaves_of : (range : Range) (counts : List ℕ) (result : Result ℕ ExtractFail) → IsPeriod (days_of store.history) from to range

@@ -52,6 +52,7 @@ LacksFrom IsKind h from nsr = (n : ℕ) (d : Entry) → from ≤ n → n < nsr �
 pub record SearchedTo {D C : Type 0} (IsKind : Body → Type 0) (shown : D → Shown) (number nsr : ℕ) (old now : State D C) : Type 0 where
   pub lacks : LacksFrom IsKind old.history number nsr
   pub looks : LooksInto shown old now
+  pub no_fault : (shown now.disk).faults ≡ (shown old.disk).faults
 
 pub lacks_at_first : (IsKind : Body → Type 0) (h : List Entry) (nsr : ℕ) → LacksFrom IsKind h nsr nsr
 lacks_at_first IsKind h nsr n d from below numbered kind = omega arith
@@ -110,14 +111,15 @@ worker_failed h nsr cpf before now e why founded numbered clocking lacks =
     why_failed h nsr before now why failed.0 failed.1
 
 pub searched_none : {D C : Type 0} (IsKind : Body → Type 0) (shown : D → Shown) (nsr : ℕ) (s : State D C) → SearchedTo IsKind shown nsr nsr s s
-searched_none IsKind shown nsr s = record { lacks = lacks_at_first IsKind s.history nsr; looks = looks_same shown s }
+searched_none IsKind shown nsr s = record { lacks = lacks_at_first IsKind s.history nsr; looks = looks_same shown s; no_fault = refl }
 
 pub searched_one : {D C : Type 0} (IsKind : Body → Type 0) (shown : D → Shown) (above number nsr : ℕ) (old now next : State D C) (e : Entry) → SearchedTo IsKind shown above nsr old now → above ≡ number + 1
-    → LooksInto shown now next → IsNumbered now.history number e → (IsKind e.body → ⊥) → SearchedTo IsKind shown number nsr old next
-searched_one IsKind shown above number nsr old now next e searched next_to looks numbered other = record {
+    → LooksInto shown now next → (shown next.disk).faults ≡ (shown now.disk).faults → IsNumbered now.history number e → (IsKind e.body → ⊥) → SearchedTo IsKind shown number nsr old next
+searched_one IsKind shown above number nsr old now next e searched next_to looks unfailed numbered other = record {
   lacks = lacks_one_more IsKind old.history number nsr e (subst (λ (h : List Entry). IsNumbered h number e) searched.looks.history numbered) other
       (subst (λ (n : ℕ). LacksFrom IsKind old.history n nsr) next_to searched.lacks);
   looks = looks_on shown old now next searched.looks looks;
+  no_fault = unfailed ∙ searched.no_fault;
 }
 
 pub searched_found : {D C : Type 0} (IsKind : Body → Type 0) (shown : D → Shown) (above number nsr : ℕ) (old now : State D C) (e : Entry) → SearchedTo IsKind shown above nsr old now → above ≡ number + 1

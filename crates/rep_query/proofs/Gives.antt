@@ -40,9 +40,15 @@ module _ {S D C V : Type 0} (m : Meanings S D) (nsr : ℕ) (was now : S) (disk d
     opens = opens;
     why = why;
     is_why = subst (λ (d : D). IsWhyNone store.history nsr (m.shown disk).faults (m.shown d).faults why) (sym is_disk)
-        (longer_why store.history nsr (m.shown disk).faults (m.shown store.disk).faults (m.shown store'.disk).faults (m.shown store'.disk).faults why opened.later (omega arith) none);
+        (longer_why store.history nsr (m.shown disk).faults (m.shown store.disk).faults (m.shown store'.disk).faults (m.shown store'.disk).faults why (omega (arith, opened.no_fault)) (omega arith) none);
     says = other;
   })
+
+-- the disk's fault at a receipt is told by its status
+pub answered_failed : {V : Type 0} (nsr : ℕ) (out_old out_new : Option (List ℕ)) (Failed : Type 0) (status : ℕ) (found : Result V NoReceipt) → found ≡ Err DeviceFault
+    → IfErr found (λ why. SaysNone why nsr out_old out_new Failed status) → status ≡ 6
+answered_failed {V} nsr out_old out_new Failed status found is none =
+    (subst (λ (r : Result V NoReceipt). IfErr r (λ why. SaysNone why nsr out_old out_new Failed status)) is none).status_is
 
 -- The statuses
 

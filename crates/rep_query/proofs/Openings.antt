@@ -16,7 +16,8 @@ use Rattle.rep_site.specs.declared.site.Site.{Site}
 use Rattle.rep_store.specs.declared.error.StoreWhy.{StoreWhy}
 use Rattle.rep_store.specs.declared.error.StoreWhy.TheVariants.{Journal, ClockFault}
 use Rattle.rep_report.specs.declared.ending.Ending.TheVariants as ending
-use Rattle.rep_store.specs.Making.{Reopens}
+use Rattle.rep_journal.specs.Recovery.{RestsFrom}
+use Rattle.rep_store.specs.Making.{Reopens, RestsUnlessFailed}
 use Rattle.rep_store.specs.State.{State}
 use Rattle.rep_run.specs.Creating.{status_of}
 use Rattle.rep_run.specs.Settings.{ReadsSite, SaysSite}
@@ -39,7 +40,7 @@ module _ {S D : Type 0} (m : Meanings S D) (was now : S) (disk : D) where
   stops_reading (Refused (refusal.Damaged at)) reads = absurd reads.0
   stops_reading (Ended ending.SourceFault) reads = (reads, refl)
   stops_reading (Ended ending.InputLimit) reads = (reads, refl)
-  stops_reading (Ended ending.OutOfMemory) reads = kept_same (m.shown disk)
+  stops_reading (Ended ending.OutOfMemory) reads = record { disk = kept_same (m.shown disk); rest = inl refl }
   stops_reading (Ended ending.AllAnswered) reads = absurd reads
   stops_reading (Ended ending.SomeRefused) reads = absurd reads
   stops_reading (Ended ending.SinkFault) reads = absurd reads
@@ -53,19 +54,26 @@ module _ {S D : Type 0} (m : Meanings S D) (was now : S) (disk disk' : D) (site 
     (foreign : IfSome (m.shown disk).contents (λ bytes. reason ≡ Journal why.Foreign → IsForeign bytes))
     (damaged : (at : ℕ) → IfSome (m.shown disk).contents (λ bytes. reason ≡ Journal (why.Damaged at) → IsDamagedAt at bytes))
     (device_fault : reason ≡ Journal why.DeviceFault → Rose (m.shown disk).faults (m.shown disk').faults)
-    (no_other : (reason ≢ Journal why.Present) × (reason ≢ ClockFault)) (kept : IsKeptBy (m.shown disk) (m.shown disk')) where
+    (no_other : (reason ≢ Journal why.Present) × (reason ≢ ClockFault)) (kept : IsKeptBy (m.shown disk) (m.shown disk'))
+    (rest : RestsUnlessFailed reason (m.shown disk) (m.shown disk')) where
+  -- but for a failed device call a sync was made
+  rests : reason ≢ Journal why.DeviceFault → RestsFrom ((m.shown disk).moment + 2) (m.shown disk')
+  rests working = elim rest [ inl failed ↦ absurd (working failed.0) | inr rested ↦ rested ]
+
   stops_by : (other : StoreWhy) → reason ≡ other → StopsOpening m (record { site = was; disk = disk }) (record { site = now; disk = disk' }) (stopping_of other)
   stops_by (Journal why.Foreign) is = record {
     site = site;
     has_site = has_site;
     contents = map_some (λ bytes. reason ≡ Journal why.Foreign → IsForeign bytes) IsForeign (m.shown disk).contents (λ bytes so. so is) foreign;
     disk = kept;
+    rest = rests (λ failed. absurd cc);
   }
   stops_by (Journal why.Blank) is = record {
     site = site;
     has_site = has_site;
     contents = map_some (λ bytes. reason ≡ Journal why.Blank → IsBlank bytes) IsBlank (m.shown disk).contents (λ bytes so. so is) blank;
     disk = kept;
+    rest = rests (λ failed. absurd cc);
   }
   stops_by (Journal why.Present) is = absurd (no_other.0 is)
   stops_by (Journal (why.Damaged at)) is = record {
@@ -73,9 +81,10 @@ module _ {S D : Type 0} (m : Meanings S D) (was now : S) (disk disk' : D) (site 
     has_site = has_site;
     contents = map_some (λ bytes. reason ≡ Journal (why.Damaged at) → IsDamagedAt at bytes) (IsDamagedAt at) (m.shown disk).contents (λ bytes so. so is) (damaged at);
     disk = kept;
+    rest = rests (λ failed. absurd cc);
   }
-  stops_by (Journal why.DeviceFault) is = record { site = site; has_site = has_site; cause = device_fault is; disk = kept }
-  stops_by (Journal why.OutOfMemory) is = kept
+  stops_by (Journal why.DeviceFault) is = record { site = site; has_site = has_site; cause = device_fault is; disk = kept; rest = elim rest [ inl failed ↦ inl failed.1 | inr rested ↦ inr rested ] }
+  stops_by (Journal why.OutOfMemory) is = record { disk = kept; rest = inr (rests (λ failed. absurd cc)) }
   stops_by ClockFault is = absurd (no_other.1 is)
 
   pub stops_at_store : StopsOpening m (record { site = was; disk = disk }) (record { site = now; disk = disk' }) (stopping_of reason)
@@ -106,7 +115,7 @@ opens_store m was now disk clock site store in_range said reopens safe = record 
   rest = reopens.rest;
   running = reopens.is_new.running;
   same_clock = reopens.same_clock;
-  later = reopens.kept.faults;
+  no_fault = reopens.no_fault;
 }
 
 -- a store that was opened, and only read since

@@ -1,12 +1,12 @@
 -- A site and its journal, opened to be read alone: this project's own. What is said of a text or of contents holds where
 -- they are told.
-use Rattle.std.specs.Prelude.{◌≡◌, ◌⊎◌, ℕ, ◌+◌, ◌≤◌, List, [], IfSome, Option, None}
+use Rattle.std.specs.Prelude.{◌≡◌, ◌⊎◌, ℕ, ◌+◌, List, [], IfSome, Option, None}
 use Rattle.rep_io.specs.Causes.{Rose}
 use Rattle.rep_disk.specs.Disk.{Shown}
 use Rattle.rep_wire.specs.declared.request.Entry.{Entry}
 use Rattle.rep_journal.specs.Format.{IsBlank, IsForeign}
 use Rattle.rep_journal.specs.Recovery.{RestsFrom}
-use Rattle.rep_journal.specs.State.{IsKeptBy}
+use Rattle.rep_journal.specs.State.{IsKeptBy, MakesCalls}
 use Rattle.rep_ledger.specs.Ledger.{IsLedgerOf, IsDamagedAt}
 use Rattle.rep_ledger.specs.Safety.{IsSafe}
 use Rattle.rep_site.specs.Site.{IsSite}
@@ -40,19 +40,26 @@ pub record RefusesText {S D : Type 0} (m : Meanings S D) (old new : Inputs S D) 
   pub text : IfSome (m.left old.site) (λ text. RefusesSite text why)
   pub disk : new.disk ≡ old.disk
 
--- the disk's contents are refused for this reason; a sync at most was made of them
+-- the disk's contents are refused for this reason; a sync was made of them, and from it on a crash leaves nothing else
 pub record RefusesContents {S D : Type 0} (m : Meanings S D) (old new : Inputs S D) (IsSo : List ℕ → Type 0) : Type 0 where
   pub site : Site
   pub has_site : HasSite m old site
   pub contents : IfSome (m.shown old.disk).contents IsSo
   pub disk : IsKeptBy (m.shown old.disk) (m.shown new.disk)
+  pub rest : RestsFrom ((m.shown old.disk).moment + 2) (m.shown new.disk)
 
--- the disk failed while its journal was looked for
+-- The disk failed while its journal was looked for: at the sync, which came first, or later.
 pub record FailsToOpen {S D : Type 0} (m : Meanings S D) (old new : Inputs S D) : Type 0 where
   pub site : Site
   pub has_site : HasSite m old site
   pub cause : Rose (m.shown old.disk).faults (m.shown new.disk).faults
   pub disk : IsKeptBy (m.shown old.disk) (m.shown new.disk)
+  pub rest : MakesCalls 1 (m.shown old.disk) (m.shown new.disk) ⊎ RestsFrom ((m.shown old.disk).moment + 2) (m.shown new.disk)
+
+-- Memory was short: the disk wasn't looked at, or a sync was made of its contents, from which on a crash leaves nothing else.
+pub record LacksMemory {S D : Type 0} (m : Meanings S D) (old new : Inputs S D) : Type 0 where
+  pub disk : IsKeptBy (m.shown old.disk) (m.shown new.disk)
+  pub rest : (new.disk ≡ old.disk) ⊎ RestsFrom ((m.shown old.disk).moment + 2) (m.shown new.disk)
 
 -- how a command stops before the journal is open
 abbrev pub StopsOpening : {S D : Type 0} → Meanings S D → Inputs S D → Inputs S D → Stopping → Type 0
@@ -67,7 +74,7 @@ StopsOpening m old new (Ended ending.SourceFault) =
     EndsReading m.left m.source_faults old.site new.site ending.SourceFault × (new.disk ≡ old.disk)
 StopsOpening m old new (Ended ending.InputLimit) =
     EndsReading m.left m.source_faults old.site new.site ending.InputLimit × (new.disk ≡ old.disk)
-StopsOpening m old new (Ended ending.OutOfMemory) = IsKeptBy (m.shown old.disk) (m.shown new.disk)
+StopsOpening m old new (Ended ending.OutOfMemory) = LacksMemory m old new
 StopsOpening m old new (Ended ending.DeviceFault) = FailsToOpen m old new
 StopsOpening m old new (Ended ending.AllAnswered) = ⊥
 StopsOpening m old new (Ended ending.SomeRefused) = ⊥
@@ -90,7 +97,7 @@ pub record OpensStore {S D C : Type 0} (m : Meanings S D) (was now : S) (disk : 
   pub rest : RestsFrom ((m.shown disk).moment + 2) (m.shown store.disk)
   pub running : store.stopped ≡ None
   pub same_clock : store.clock ≡ clock
-  pub later : (m.shown disk).faults ≤ (m.shown store.disk).faults
+  pub no_fault : (m.shown store.disk).faults ≡ (m.shown disk).faults
 
 -- how a command stops where neither text nor contents are refused: memory was short, or the source or the disk failed
 abbrev pub IsForWant : ℕ → ℕ → ℕ → ℕ → Stopping → Type 0

@@ -1,5 +1,5 @@
 //! `extract`.
-ghost use Rattle.std.specs.Prelude.{◌≡◌, ◌⊎◌, ◌≤◌, ℕ, List, Some};
+ghost use Rattle.std.specs.Prelude.{◌≡◌, ◌≢◌, ◌⊎◌, ◌≤◌, ℕ, List, Some};
 ghost use Rattle.rep_io.specs.Causes.{Rose};
 ghost use Rattle.rep_wire.specs.declared.request.Entry.{Entry};
 ghost use Rattle.rep_ledger.specs.Ledger.{IsLedgerOf};
@@ -64,6 +64,12 @@ pub fn extract<S: Source, K: Sink, D: Disk, C: Clock>(
         → Rose (K.faults file) (K.faults result.file) ⊎ Rose (K.faults out) (K.faults result.out) }
     ensures device_fault { result.status ≡ 6 → Rose (D.shown disk).faults (D.shown result.disk).faults }
     ensures clock_fault { result.status ≡ 7 → Rose (C.faults clock) (C.faults result.clock) }
+    // No fault is passed over. One of `out` at the counts is told in the place of another.
+    ensures no_source_fault { result.status ≢ 4 → result.status ≢ 5 → S.faults result.site ≡ S.faults site }
+    ensures no_sink_fault { result.status ≢ 5 → K.faults result.file ≡ K.faults file }
+    ensures no_device_fault { result.status ≢ 6 → result.status ≢ 5
+        → (D.shown result.disk).faults ≡ (D.shown disk).faults }
+    ensures no_clock_fault { result.status ≢ 7 → result.status ≢ 5 → C.faults result.clock ≡ C.faults clock }
     // Where the text is a site's, the journal keeps a history and nothing of the outside fails, all is done, unless memory is
     // short.
     ensures complete { (text contents : List ℕ) (said : Site) (h : List Entry) → S.left site ≡ Some text → SaysSite text said

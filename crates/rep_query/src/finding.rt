@@ -1,5 +1,5 @@
 //! The receipt of a number, out of a store.
-ghost use Rattle.std.specs.Prelude.{◌≡◌, ◌≤◌, ◌↔◌, [], length, IfOk, IfErr, IfSome, IsTrue, None};
+ghost use Rattle.std.specs.Prelude.{◌≡◌, ◌≢◌, ◌≤◌, ◌↔◌, [], length, IfOk, IfErr, IfSome, IsTrue, None, Err};
 ghost use Rattle.rep_io.specs.Causes.{Rose};
 ghost use Rattle.afd_records.specs.Record.{IsClocking, IsNsr};
 ghost use Rattle.rep_wire.specs.declared.request.Entry.{Entry as TheEntry};
@@ -59,6 +59,8 @@ pub fn find<D: Disk, C: Clock>(
     ensures found { IfOk result (λ text. IsReceiptOf store.old.site store.old.history nsr text.items) }
     ensures none { IfErr result (IsWhyNone store.old.history nsr (D.shown store.old.disk).faults (D.shown store.new.disk).faults) }
     ensures looks { LooksInto D.shown store.old store.new }
+    ensures no_fault { result ≢ Err NoReceipt.DeviceFault
+        → (D.shown store.new.disk).faults ≡ (D.shown store.old.disk).faults }
     ensures safe { IsSafe (D.shown store.old.disk).moment store.old.history store.old.history []
         (D.shown store.old.disk) (D.shown store.new.disk) }
 {
@@ -83,6 +85,8 @@ fn found_at<D: Disk, C: Clock>(
     ensures found { IfOk result (λ text. IsReceiptOf store.old.site store.old.history nsr text.items) }
     ensures none { IfErr result (IsWhyNone store.old.history nsr (D.shown store.old.disk).faults (D.shown store.new.disk).faults) }
     ensures looks { LooksInto D.shown store.old store.new }
+    ensures no_fault { result ≢ Err NoReceipt.DeviceFault
+        → (D.shown store.new.disk).faults ≡ (D.shown store.old.disk).faults }
 {
     let Ok(filed) = filed_at(store, nsr) else {
         return Err(NoReceipt::DeviceFault);
@@ -125,6 +129,8 @@ fn filed_at<D: Disk, C: Clock>(store: &mut Store<D, C>, nsr: u32) -> Result<File
     ensures fails { IfErr result (λ why. (why ≡ NoReceipt.DeviceFault)
         × Rose (D.shown store.old.disk).faults (D.shown store.new.disk).faults) }
     ensures looks { LooksInto D.shown store.old store.new }
+    ensures no_fault { result ≢ Err NoReceipt.DeviceFault
+        → (D.shown store.new.disk).faults ≡ (D.shown store.old.disk).faults }
 {
     match store.slip(nsr) {
         Ok(filed) => Ok(filed),
@@ -144,6 +150,8 @@ fn last_employer<D: Disk, C: Clock>(store: &mut Store<D, C>, nsr: u32) -> Result
     ensures lacks { IfErr result (IsWhyLacking IsEmployer store.old.history nsr
         (D.shown store.old.disk).faults (D.shown store.new.disk).faults) }
     ensures looks { LooksInto D.shown store.old store.new }
+    ensures no_fault { result ≢ Err NoReceipt.DeviceFault
+        → (D.shown store.new.disk).faults ≡ (D.shown store.old.disk).faults }
 {
     for number in (1..nsr).rev() {
         let Ok(filed) = filed_at(store, number) else {
@@ -169,6 +177,8 @@ fn last_name<D: Disk, C: Clock>(
     ensures lacks { IfErr result (IsWhyLacking (IsWorkerOf cpf) store.old.history nsr
         (D.shown store.old.disk).faults (D.shown store.new.disk).faults) }
     ensures looks { LooksInto D.shown store.old store.new }
+    ensures no_fault { result ≢ Err NoReceipt.DeviceFault
+        → (D.shown store.new.disk).faults ≡ (D.shown store.old.disk).faults }
 {
     for number in (1..nsr).rev() {
         let Ok(filed) = filed_at(store, number) else {

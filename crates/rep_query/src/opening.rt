@@ -1,5 +1,5 @@
 //! A site and its journal, opened to be read alone.
-ghost use Rattle.std.specs.Prelude.{◌≡◌, ◌≤◌, ◌⊎◌, ℕ, List, IfOk, IfErr, IfSome, Some, None};
+ghost use Rattle.std.specs.Prelude.{◌≡◌, ◌≢◌, ◌≤◌, ◌⊎◌, ℕ, List, IfOk, IfErr, IfSome, MatchResult, Some, None};
 ghost use Rattle.rep_wire.specs.declared.request.Entry.{Entry};
 ghost use Rattle.rep_ledger.specs.Ledger.{IsLedgerOf};
 ghost use Rattle.rep_report.specs.declared.ending.Ending.{Ending};
@@ -45,6 +45,11 @@ pub fn open<S: Source, D: Disk, C: Clock>(
         × (closed.clock ≡ clock)) }
     ensures source_later { S.faults site.old ≤ S.faults site.new }
     ensures disk_later { IfErr result (λ closed. (D.shown disk).faults ≤ (D.shown closed.disk).faults) }
+    // No fault is passed over.
+    ensures no_source_fault { MatchResult result (λ opened. S.faults site.new ≡ S.faults site.old)
+        (λ closed. closed.stopping ≢ Stopping.Ended Ending.SourceFault → S.faults site.new ≡ S.faults site.old) }
+    ensures no_device_fault { IfErr result (λ closed. closed.stopping ≢ Stopping.Ended Ending.DeviceFault
+        → (D.shown closed.disk).faults ≡ (D.shown disk).faults) }
     // A site's text and the contents of a journal that keeps a history aren't refused.
     ensures found { (text contents : List ℕ) (said : TheSite) (h : List Entry) → S.left site.old ≡ Some text → SaysSite text said
         → (D.shown disk).contents ≡ Some contents → IsLedgerOf contents h

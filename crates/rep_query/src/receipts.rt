@@ -50,6 +50,9 @@ pub fn receipt<S: Source, K: Sink, D: Disk>(
     ensures sink_fault { result.status ≡ 5 → Rose (K.faults out) (K.faults result.out) }
     ensures device_fault { result.status ≡ 6 → Rose (D.shown disk).faults (D.shown result.disk).faults }
     ensures no_clock { result.status ≢ 7 }
+    // No fault is passed over.
+    ensures no_source_fault { result.status ≢ 4 → S.faults result.site ≡ S.faults site }
+    ensures no_device_fault { result.status ≢ 6 → (D.shown result.disk).faults ≡ (D.shown disk).faults }
     // Where the text is a site's, the journal keeps a history with a clocking of this number and nothing of the outside
     // fails, its receipt is written, unless memory is short.
     ensures complete { (text contents : List ℕ) (said : Site) (h : List Entry) (e : Entry)

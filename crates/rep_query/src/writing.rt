@@ -1,5 +1,5 @@
 //! The AFD of a period out of a store.
-ghost use Rattle.std.specs.Prelude.{◌≡◌, ◌≤◌, None};
+ghost use Rattle.std.specs.Prelude.{◌≡◌, ◌≢◌, ◌≤◌, None};
 ghost use Rattle.rep_report.specs.declared.ending.Ending.{Ending};
 ghost use Rattle.rep_query.specs.Writing.{WritesOut, ending_of};
 
@@ -23,6 +23,12 @@ pub fn write_out<K: Sink, D: Disk, C: Clock>(
         (K.written out.old) (K.written out.new) (K.faults out.old) (K.faults out.new) result }
     ensures file_later { K.faults file.old ≤ K.faults file.new }
     ensures out_later { K.faults out.old ≤ K.faults out.new }
+    // No fault is passed over. One of `out` at the line is told in the place of another.
+    ensures no_file_fault { result ≢ Ending.SinkFault → K.faults file.new ≡ K.faults file.old }
+    ensures no_device_fault { result ≢ Ending.DeviceFault → result ≢ Ending.SinkFault
+        → (D.shown store.new.disk).faults ≡ (D.shown store.old.disk).faults }
+    ensures no_clock_fault { result ≢ Ending.ClockFault → result ≢ Ending.SinkFault
+        → C.faults store.new.clock ≡ C.faults store.old.clock }
 {
     let range = store.period(from, to);
     match store.extract(None, from, to, file) {

@@ -5,9 +5,9 @@ use Rattle.std.proofs.lemmas.List.Elements.{All-nil}
 use Rattle.rep_io.specs.Causes.{Rose}
 use Rattle.rep_disk.specs.Disk.{Shown, Changes, IsAtRest, last_moment}
 use Rattle.rep_journal.specs.Format.{IsBlank, IsForeign, IsPresent}
-use Rattle.rep_journal.specs.State.{IsRead}
+use Rattle.rep_journal.specs.State.{IsRead, Leaves}
 use Rattle.rep_journal.specs.declared.error.WhyNot.TheVariants as why
-use Rattle.rep_ledger.specs.Ledger.{IsLedgerOf}
+use Rattle.rep_ledger.specs.Ledger.{IsLedgerOf, frames_of}
 use Rattle.rep_ledger.specs.Safety.{IsSafe, Receipted}
 use Rattle.rep_ledger.proofs.SafetyLemmas.{Secures-read}
 use Rattle.rep_site.specs.declared.site.Site.{Site}
@@ -136,6 +136,8 @@ module _ {S D C : Type 0} (m : Meanings S D C) (source source' : S) (disk disk' 
             (λ was now. IsBlank was × IsLedgerOf now (recorded_at [] (founding_request site) site.offset (Some founds.minute)))
             (m.shown disk).contents (m.shown s.disk).contents
             (λ was now told ledger. (use_some IsBlank (m.shown disk).contents was told creates.blank, subst (λ (h : List Entry). IsLedgerOf now h) history ledger)) founds.contents);
+        text = subst (λ (d : D). Leaves (frames_of (recorded_at [] (founding_request site) site.offset (Some founds.minute))) (m.shown disk).contents (m.shown d).contents) (sym same_disk)
+            (subst (λ (h : List Entry). Leaves (frames_of h) (m.shown disk).contents (m.shown s.disk).contents) history founds.text);
         rest = subst (λ (d : D). IsAtRest (m.shown d)) (sym same_disk) founds.rest;
       }
 
@@ -233,6 +235,12 @@ module _ {S D C : Type 0} (m : Meanings S D C) (source source' : S) (disk disk' 
             → IfSome o (λ bytes. IsBlank bytes → IsMadeOrFails (stopping_of reason))
         both None f p = tt
         both (Some bytes) f p = λ blank. fails_by reason refl bytes blank f p
+
+-- what a call told, where it had stopped by a fault
+pub fault_told : (stopping told : Stopping) → (told ≡ stopping) ⊎ ((stopping ≡ Ended ending.AllAnswered) × (told ≡ Ended ending.SinkFault)) → (fault : Ending) → fault ≢ ending.AllAnswered
+    → stopping ≡ Ended fault → status_of told ≡ status_of (Ended fault)
+fault_told stopping told (inl same) fault failed is = ap status_of (same ∙ is)
+fault_told stopping told (inr t) fault failed is = let made = t.0 in absurd (failed cc)
 
 -- a call of `create` in which nothing of the outside fails
 pub complete_made : {S D C : Type 0} (m : Meanings S D C) (old new : Parts S D C) (stopping told : Stopping) (out_old out_new : Option (List ℕ)) (before now : ℕ)

@@ -1,5 +1,5 @@
 -- a store as the desk of a lane
-use Rattle.std.proofs.Common.{◌≡◌, ◌↔◌, ℕ, ℤ, inl, inr, List, [], ◌∷◌, ◌++◌, length, Option, Some, None, Result, Ok, Err, refl, sym, ap, subst, ◌∙◌}
+use Rattle.std.proofs.Common.{◌≡◌, ◌≢◌, ◌↔◌, ℕ, ℤ, inl, inr, List, [], ◌∷◌, ◌++◌, length, Option, Some, None, Result, Ok, Err, refl, sym, ap, subst, ◌∙◌}
 use Rattle.std.proofs.lemmas.List.{append_cancel_left}
 use Rattle.std.specs.Prelude.{IfOk, IsSome}
 use Rattle.std.specs.Io.KnownBytes.{append_known}
@@ -7,7 +7,7 @@ use Rattle.afd_records.specs.File.{file_text}
 use Rattle.afd_extract.specs.Extract.{counts_of_lines}
 use Rattle.rep_fields.specs.Moment.{moment_at}
 use Rattle.rep_io.specs.Causes.{Rose}
-use Rattle.rep_disk.specs.Disk.{Shown, Changes}
+use Rattle.rep_disk.specs.Disk.{Shown}
 use Rattle.rep_wire.specs.Reply.{extract_text}
 use Rattle.rep_wire.specs.declared.request.Entry.{Entry}
 use Rattle.rep_wire.specs.declared.request.Request.{Request}
@@ -20,7 +20,6 @@ use Rattle.rep_site.specs.declared.site.Site.{Site}
 use Rattle.rep_store.specs.Extracting.{IsAfdOf, IsPutOf, IsPutOfLines, Extracts as StoreExtracts}
 use Rattle.rep_store.specs.State.{State}
 use Rattle.rep_store.specs.Steps.{LeavesAll, MissesTime, Serves, Stops, recorded_at, receipts_of as store_receipts}
-use Rattle.rep_store.specs.declared.extracting.Lead.{Lead}
 use Rattle.rep_store.specs.declared.error.ExtractFail.{ExtractFail}
 use Rattle.rep_store.specs.declared.error.ExtractFail.TheVariants as extract
 use Rattle.rep_store.specs.declared.error.Stop.{Stop}
@@ -35,7 +34,7 @@ use Rattle.rep_lane.proofs.LineLemmas.{puts_nothing}
 use Rattle.rep_ledger.specs.Ledger.{IsLedgerOf}
 use Rattle.rep_report.specs.Saying.{IsStrictFront}
 use Rattle.rep_run.specs.Extraction.{IsExtraction, IsExtractOf}
-use Rattle.rep_run.specs.Desk.{Asks, AsksBy, Extracts, CutsExtract, ExtractsBy, Files, Shows, receipts_of}
+use Rattle.rep_run.specs.Desk.{Asks, AsksBy, Extracts, Files, Shows, receipts_of}
 use Rattle.rep_run.specs.Steps.{extract_fail, fail_of}
 use Rattle.rep_run.proofs.Known.{told_on}
 
@@ -107,9 +106,10 @@ cut_of site h line seq from to minute why (Some bytes) put lines told =
 
 module _ {D C : Type 0} (shown : D → Shown) (readings : C → Option (List ℕ)) (faults : C → ℕ) (line seq from to : ℕ) (old new : State D C) (was now : Option (List ℕ)) where
   made_wholly : (size : ℕ) → StoreExtracts shown readings faults (Some (record { line = line; seq = seq })) from to old new was now (Ok size)
+      → (shown new.disk).faults ≡ (shown old.disk).faults
       → (old.stopped ≡ None → IsSafe (shown old.disk).moment old.history old.history [] (shown old.disk) (shown new.disk))
       → PutsExtract (Files shown readings faults) line seq from to old new was now (Ok tt)
-  made_wholly size e safe =
+  made_wholly size e unfailed safe =
       let l = e.of_lines in
       let afd = file_text l.head l.lines (counts_of_lines l.lines) in
       let sized : (then : ℕ) (whole : List ℕ) → IsAfdOf old.site old.history from to then whole → l.size ≡ length whole = l.is_size refl in
@@ -117,7 +117,7 @@ module _ {D C : Type 0} (shown : D → Shown) (readings : C → Option (List ℕ
         due = record { size = l.size; front = length old.history; afd = afd };
         step = record {
           answered = record {
-            takes = record { running = e.running; kept = e.kept; minute = e.minute; clock = e.clock };
+            takes = record { running = e.running; kept = e.kept; minute = e.minute; clock = e.clock; no_fault = λ _. unfailed };
             front = refl;
             made = record {
               range = l.range;
@@ -153,26 +153,27 @@ module _ {D C : Type 0} (shown : D → Shown) (readings : C → Option (List ℕ
       → (result ≡ Err extract.SinkFault → StoreExtracts shown readings faults (Some (record { line = line; seq = seq })) from to old new was now result)
       → (result ≡ Err extract.DeviceFault → StoreExtracts shown readings faults (Some (record { line = line; seq = seq })) from to old new was now result
       × Rose (shown old.disk).faults (shown new.disk).faults)
+      → (result ≢ Err extract.DeviceFault → (shown new.disk).faults ≡ (shown old.disk).faults)
       → (old.stopped ≡ None → IsSafe (shown old.disk).moment old.history old.history [] (shown old.disk) (shown new.disk))
       → PutsExtract (Files shown readings faults) line seq from to old new was now (extract_answer result)
-  extracts_of (Ok size) made stopped left clock sink device safe = made_wholly size made safe
-  extracts_of (Err (extract.Stopped count)) made stopped left clock sink device safe =
+  extracts_of (Ok size) made stopped left clock sink device unfailed safe = made_wholly size made (unfailed (λ failed. absurd cc)) safe
+  extracts_of (Err (extract.Stopped count)) made stopped left clock sink device unfailed safe =
       let l = left count refl in
       subst (λ (o : Option (List ℕ)). PutsExtract (Files shown readings faults) line seq from to old new was o (Err fail.Stopped)) (sym l.1)
       (puts_nothing (Files shown readings faults) line seq from to old new was (record { size = 0; front = 0; afd = [] }) fail.Stopped
       (record { answered = (count, (stopped count).0 refl, l.0); safe = safe }))
-  extracts_of (Err extract.ClockFault) made stopped left clock sink device safe =
+  extracts_of (Err extract.ClockFault) made stopped left clock sink device unfailed safe =
       let l = clock refl in
       subst (λ (o : Option (List ℕ)). PutsExtract (Files shown readings faults) line seq from to old new was o (Err fail.ClockFault)) (sym l.1)
       (puts_nothing (Files shown readings faults) line seq from to old new was (record { size = 0; front = 0; afd = [] }) fail.ClockFault
       (record { answered = l.0; safe = safe }))
-  extracts_of (Err extract.SinkFault) made stopped left clock sink device safe =
+  extracts_of (Err extract.SinkFault) made stopped left clock sink device unfailed safe =
       let e = sink refl in
       let c = cut_of old.site old.history line seq from to e.minute extract.SinkFault (shown old.disk).contents e.put e.of_lines e.is_put in
       record {
         due = c.due;
         step = record {
-          answered = record { takes = record { running = e.running; kept = e.kept; minute = e.minute; clock = e.clock }; front = c.front; made = c.made };
+          answered = record { takes = record { running = e.running; kept = e.kept; minute = e.minute; clock = e.clock; no_fault = λ _. unfailed (λ failed. absurd cc) }; front = c.front; made = c.made };
           safe = safe;
         };
         put = e.put;
@@ -180,14 +181,14 @@ module _ {D C : Type 0} (shown : D → Shown) (readings : C → Option (List ℕ
         is_put = c.cut;
         nothing = λ other device_. absurd (other refl);
       }
-  extracts_of (Err extract.DeviceFault) made stopped left clock sink device safe =
+  extracts_of (Err extract.DeviceFault) made stopped left clock sink device unfailed safe =
       let d = device refl in
       let e = d.0 in
       let c = cut_of old.site old.history line seq from to e.minute extract.DeviceFault (shown old.disk).contents e.put e.of_lines e.is_put in
       record {
         due = c.due;
         step = record {
-          answered = (record { takes = record { running = e.running; kept = e.kept; minute = e.minute; clock = e.clock }; front = c.front; made = c.made }, d.1);
+          answered = (record { takes = record { running = e.running; kept = e.kept; minute = e.minute; clock = e.clock; no_fault = λ never. absurd cc }; front = c.front; made = c.made }, d.1);
           safe = safe;
         };
         put = e.put;

@@ -115,8 +115,8 @@ module _ {S K D C : Type 0} (m : Meanings S K D C) (old new : Parts S K D C) (ou
   ended_by other end is kept ends =
       ends (subst (λ (e : Ending). EndsAs s.answers s.ended e) (due_told s.due s.told other s.concludes.put _ _ s.concludes.told is kept) s.due_is)
 
-  leaves_by : (end : End) → s.ended ≡ end → LeavesStore m old new s.site s.head (replies_from first_line s.answers) s.whole s.says.next s.next s.given s.after end
-  leaves_by end is = subst (λ (e : End). LeavesStore m old new s.site s.head (replies_from first_line s.answers) s.whole s.says.next s.next s.given s.after e) is s.leaves
+  leaves_by : (end : End) → s.ended ≡ end → LeavesStore m old new s.site s.head (replies_from first_line s.answers) s.whole s.says.next s.next s.given s.before s.after end
+  leaves_by end is = subst (λ (e : End). LeavesStore m old new s.site s.head (replies_from first_line s.answers) s.whole s.says.next s.next s.given s.before s.after e) is s.leaves
 
   pub source_cause : s.told ≡ ending.SourceFault → Rose (m.source_faults old.lane) (m.source_faults new.lane)
   source_cause is = (leaves_by SourceFault (ended_by ending.SourceFault SourceFault is (λ never. absurd cc) (ended_source s.answers s.ended))).3

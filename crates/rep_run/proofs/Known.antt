@@ -40,6 +40,9 @@ same_err r a b one two = cc
 pub same_ok : {T E : Type 0} (r : Result T E) (a b : T) → r ≡ Ok a → r ≡ Ok b → a ≡ b
 same_ok r a b one two = cc
 
+pub not_both : {T E : Type 0} {r : Result T E} {a : T} {b : E} → r ≡ Ok a → r ≡ Err b → ⊥
+not_both one two = absurd cc
+
 -- changes of contents, one after another
 pub Changes-map : (P Q : List ℕ → List ℕ → Type 0) (old new : Option (List ℕ)) → ((was now : List ℕ) → old ≡ Some was → P was now → Q was now) → Changes P old new → Changes Q old new
 Changes-map P Q None None each changes = tt
@@ -64,6 +67,15 @@ Changes-stay Q (Some was) (Some now) same holds = let is : was ≡ now = cc in s
 
 pub Changes-same : (P : List ℕ → List ℕ → Type 0) (old mid new : Option (List ℕ)) → Changes P old mid → new ≡ mid → Changes P old new
 Changes-same P old mid new changes same = subst (λ (o : Option (List ℕ)). Changes P old o) (sym same) changes
+
+-- one change of contents behind another, through what they were between
+pub Changes-through : (P Q : List ℕ → List ℕ → Type 0) (old mid new : Option (List ℕ)) → Changes P old mid → Changes Q mid new → Changes (λ was now. (between : List ℕ) × P was between × Q between now) old new
+Changes-through P Q None None None one two = tt
+Changes-through P Q None None (Some now) one two = absurd two
+Changes-through P Q None (Some mid) new one two = absurd one
+Changes-through P Q (Some was) None new one two = absurd one
+Changes-through P Q (Some was) (Some mid) None one two = absurd two
+Changes-through P Q (Some was) (Some mid) (Some now) one two = (mid, one, two)
 
 pub told_on : (P : List ℕ → List ℕ → Type 0) (old new : Option (List ℕ)) → Changes P old new → IsSome old → IsSome new
 told_on P None new changes told = absurd cc

@@ -6,4 +6,5 @@ pub mod DeskLemmas
 pub mod StepLemmas
 pub mod ServingLemmas
 pub mod EndingLemmas
+pub mod FaultLemmas
 pub mod RunningLemmas

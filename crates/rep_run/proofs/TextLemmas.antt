@@ -1,5 +1,5 @@
 -- how the texts of `run` are read
-use Rattle.std.proofs.Common.{◌≡◌, ℕ, ◌<◌, ◌≤◌, inl, inr, List, [], ◌∷◌, length, Option, Some, Err, refl, sym, subst, arith}
+use Rattle.std.proofs.Common.{◌≡◌, ◌≢◌, ℕ, ◌<◌, ◌≤◌, inl, inr, List, [], ◌∷◌, length, Option, Some, Result, Err, refl, sym, ap, subst, ◌∙◌, arith}
 use Rattle.rep_io.specs.Causes.{Rose}
 use Rattle.rep_io.specs.Cutter.{Cutter}
 use Rattle.rep_io.specs.Lines.{lines_of, longest_text}
@@ -16,7 +16,7 @@ use Rattle.rep_run.specs.Creating.{status_of}
 use Rattle.rep_run.specs.Running.{Meanings, HasSite, HasTexts, StaysBeyondTexts, StopsBefore, IsServable}
 use Rattle.rep_run.specs.Steps.{BeginsTexts, IsSiteRefusal, ReadsSiteOf, StopsAtTexts, head_stopping}
 use Rattle.rep_run.specs.declared.texts.Texts.{Texts}
-use Rattle.rep_run.proofs.Known.{if_some, use_some, kept_same}
+use Rattle.rep_run.proofs.Known.{if_some, use_some, kept_same, same_err}
 
 -- the lane has no head, behind a site
 module _ {S : Type 0} (left : S → Option (List ℕ)) (faults : S → ℕ) (source source' : S) (lines lines' : Cutter S) where
@@ -25,6 +25,10 @@ module _ {S : Type 0} (left : S → Option (List ℕ)) (faults : S → ℕ) (sou
   stops_at_head said reads OffGrammar heads cause = record { site = said; reads = reads; no_head = heads }
   stops_at_head said reads SourceFault heads cause = inr (said, reads, cause refl)
   stops_at_head said reads InputLimit heads cause = inr (said, reads, heads)
+
+-- the texts didn't stop the command by a fault of a source, where it ends by none
+pub no_source_stop : (result : Result Texts Stopping) (stopping : Stopping) (status : ℕ) → result ≡ Err stopping → status ≡ status_of stopping → status ≢ 4 → result ≢ Err (Ended ending.SourceFault)
+no_source_stop result stopping status is status_is other failed = other (status_is ∙ ap status_of (same_err result stopping (Ended ending.SourceFault) is failed))
 
 -- both texts begin as they must, or the command stops at them
 module _ {S K D C : Type 0} (m : Meanings S K D C) (site site' lane lane' : S) (disk : D) (clock : C) (replies : K) (lines lines' : Cutter S)
@@ -60,7 +64,7 @@ module _ {S K D C : Type 0} (m : Meanings S K D C) (site site' lane lane' : S) (
   stops_before (Ended ending.SinkFault) stops = absurd stops
   stops_before (Ended ending.DeviceFault) stops = absurd stops
   stops_before (Ended ending.ClockFault) stops = absurd stops
-  stops_before (Ended ending.OutOfMemory) stops = (kept_same (m.shown disk), record { clock = refl; replies = refl })
+  stops_before (Ended ending.OutOfMemory) stops = record { disk = kept_same (m.shown disk); rest = inl refl; beyond = record { clock = refl; replies = refl } }
   stops_before (Ended ending.InputLimit) (inl long) = (inl long, stays)
   stops_before (Ended ending.InputLimit) (inr t) = (
     inr (t.0, has t.0 t.1, if_some (λ text. (longest_text < length text) × (ended_lines text ≡ 0)) (m.left lane) (λ text told. t.2 text (unread text told))),

@@ -6,8 +6,8 @@ use Rattle.rep_io.specs.Causes.{Rose}
 use Rattle.rep_wire.specs.declared.request.Entry.{Entry}
 use Rattle.rep_disk.specs.Disk.{Shown, Changes, IsAtRest}
 use Rattle.rep_journal.specs.Format.{IsBlank, IsForeign, IsPresent}
-use Rattle.rep_journal.specs.State.{IsRead}
-use Rattle.rep_ledger.specs.Ledger.{IsLedgerOf}
+use Rattle.rep_journal.specs.State.{IsRead, Leaves}
+use Rattle.rep_ledger.specs.Ledger.{IsLedgerOf, frames_of}
 use Rattle.rep_ledger.specs.Safety.{IsSafe}
 use Rattle.rep_site.specs.Site.{IsSite}
 use Rattle.rep_site.specs.declared.site.Site.{Site}
@@ -60,6 +60,8 @@ pub record MakesJournal {S D C : Type 0} (m : Meanings S D C) (old new : Parts S
   pub ticks : Ticks m.readings m.clock_faults minute old.clock new.clock
   pub contents : Changes
       (λ was now. IsBlank was × IsLedgerOf now (recorded_at [] (founding_request site) site.offset (Some minute)))
+      (m.shown old.disk).contents (m.shown new.disk).contents
+  pub text : Leaves (frames_of (recorded_at [] (founding_request site) site.offset (Some minute)))
       (m.shown old.disk).contents (m.shown new.disk).contents
   pub rest : IsAtRest (m.shown new.disk)
 

@@ -1,5 +1,5 @@
 -- A store as the desk of a lane: this project's own.
-use Rattle.std.specs.Prelude.{◌≡◌, ℕ, List, [], length, Bool, true, false, IsSome, Option, Some, None, Result, Ok, Err}
+use Rattle.std.specs.Prelude.{◌≡◌, ℕ, List, [], length, Bool, true, false, IsFalse, IsSome, Option, Some, None, Result, Ok, Err}
 use Rattle.rep_io.specs.Causes.{Rose}
 use Rattle.rep_disk.specs.Disk.{Shown}
 use Rattle.rep_core.specs.Verdict.{IsVerdict}
@@ -38,12 +38,13 @@ pub record Asks {D C : Type 0} (shown : D → Shown) (readings : C → Option (L
   pub safe : old.stopped ≡ None → IsSafe (shown old.disk).moment old.history (recorded_at old.history q old.offset new.reading)
       (receipts_of (shown new.disk).moment result) (shown old.disk) (shown new.disk)
 
--- the clock was read, the disk was read at most, and the history stays
+-- The clock was read, the disk was read at most, and the history stays. The disk failed only where that is said.
 pub record TakesTime {D C : Type 0} (shown : D → Shown) (readings : C → Option (List ℕ)) (faults : C → ℕ) (failed : Bool) (old new : State D C) : Type 0 where
   pub running : old.stopped ≡ None
   pub kept : IsReadBy shown failed old new
   pub minute : ℕ
   pub clock : Ticks readings faults minute old.clock new.clock
+  pub no_fault : IsFalse failed → (shown new.disk).faults ≡ (shown old.disk).faults
 
 -- the extraction was made
 pub record Extracts {D C : Type 0} (shown : D → Shown) (readings : C → Option (List ℕ)) (faults : C → ℕ) (old : State D C) (from to : ℕ) (due : Extracted)

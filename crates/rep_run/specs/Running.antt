@@ -17,9 +17,11 @@ use Rattle.rep_core.specs.Verdict.{IsVerdict}
 use Rattle.rep_core.specs.Answered.{recorded_after}
 use Rattle.rep_core.specs.declared.verdict.Verdict.TheVariants.{Fresh}
 use Rattle.rep_journal.specs.Format.{IsBlank, IsForeign}
-use Rattle.rep_journal.specs.State.{IsKeptBy}
+use Rattle.rep_journal.specs.State.{IsKeptBy, MakesCalls}
+use Rattle.rep_journal.specs.Recovery.{RestsFrom}
 use Rattle.rep_ledger.specs.Ledger.{IsLedgerOf, IsDamagedAt}
 use Rattle.rep_ledger.specs.Safety.{IsSafe, Receipted, receipted_at}
+use Rattle.rep_ledger.specs.Leaving.{ChangesAtEnd, GrowsTo}
 use Rattle.rep_site.specs.Site.{IsSite}
 use Rattle.rep_site.specs.declared.site.Site.{Site}
 use Rattle.rep_report.specs.Report.{run_text}
@@ -88,11 +90,12 @@ pub record HasTexts {S K D C : Type 0} (m : Meanings S K D C) (old : Parts S K D
   pub in_range : IsLaneHead head
   pub headed : IfSome (m.left old.lane) (λ text. (first : List ℕ) × (behind : List (List ℕ)) × (lines_of text ≡ first ∷ behind) × IsHeadLine head first)
 
--- the disk's contents are refused for this reason; a sync at most was made of them
+-- the disk's contents are refused for this reason; a sync was made of them, and from it on a crash leaves nothing else
 pub record RefusesContents {S K D C : Type 0} (m : Meanings S K D C) (old new : Parts S K D C) (IsSo : List ℕ → Type 0) : Type 0 where
   pub texts : HasTexts m old
   pub contents : IfSome (m.shown old.disk).contents IsSo
   pub disk : IsKeptBy (m.shown old.disk) (m.shown new.disk)
+  pub rest : RestsFrom ((m.shown old.disk).moment + 2) (m.shown new.disk)
   pub beyond : StaysBeyond old new
 
 -- the text of the site is refused
@@ -119,6 +122,20 @@ FailsToRead m old new =
     Rose (m.source_faults old.site) (m.source_faults new.site)
     ⊎ ((site : Site) × HasSite m old site × Rose (m.source_faults old.lane) (m.source_faults new.lane))
 
+-- Memory was short: the disk wasn't looked at, or a sync was made of its contents, from which on a crash leaves nothing else.
+pub record LacksMemory {S K D C : Type 0} (m : Meanings S K D C) (old new : Parts S K D C) : Type 0 where
+  pub disk : IsKeptBy (m.shown old.disk) (m.shown new.disk)
+  pub rest : (new.disk ≡ old.disk) ⊎ RestsFrom ((m.shown old.disk).moment + 2) (m.shown new.disk)
+  pub beyond : StaysBeyond old new
+
+-- The disk failed while its journal was looked for: at the sync, which came first, or later.
+pub record FailsToOpen {S K D C : Type 0} (m : Meanings S K D C) (old new : Parts S K D C) : Type 0 where
+  pub texts : HasTexts m old
+  pub cause : Rose (m.shown old.disk).faults (m.shown new.disk).faults
+  pub disk : IsKeptBy (m.shown old.disk) (m.shown new.disk)
+  pub rest : MakesCalls 1 (m.shown old.disk) (m.shown new.disk) ⊎ RestsFrom ((m.shown old.disk).moment + 2) (m.shown new.disk)
+  pub beyond : StaysBeyond old new
+
 -- how the command stops before the store is opened
 abbrev pub StopsBefore : {S K D C : Type 0} → Meanings S K D C → Parts S K D C → Parts S K D C → Stopping → Type 0
 StopsBefore m old new (Refused refusal.SiteText) = RefusesSiteText m old new refusal.SiteText
@@ -130,11 +147,8 @@ StopsBefore m old new (Refused refusal.Present) = ⊥
 StopsBefore m old new (Refused (refusal.Damaged at)) = RefusesContents m old new (IsDamagedAt at)
 StopsBefore m old new (Ended ending.SourceFault) = FailsToRead m old new × StaysBeyondTexts old new
 StopsBefore m old new (Ended ending.InputLimit) = IsTooLong m old × StaysBeyondTexts old new
-StopsBefore m old new (Ended ending.OutOfMemory) =
-    IsKeptBy (m.shown old.disk) (m.shown new.disk) × StaysBeyond old new
-StopsBefore m old new (Ended ending.DeviceFault) =
-    HasTexts m old × Rose (m.shown old.disk).faults (m.shown new.disk).faults
-    × IsKeptBy (m.shown old.disk) (m.shown new.disk) × StaysBeyond old new
+StopsBefore m old new (Ended ending.OutOfMemory) = LacksMemory m old new
+StopsBefore m old new (Ended ending.DeviceFault) = FailsToOpen m old new
 StopsBefore m old new (Ended ending.AllAnswered) = ⊥
 StopsBefore m old new (Ended ending.SomeRefused) = ⊥
 StopsBefore m old new (Ended ending.SinkFault) = ⊥
@@ -143,9 +157,10 @@ StopsBefore m old new (Ended ending.ClockFault) = ⊥
 -- Once the store is open
 
 -- The request of the line behind those that were answered was to be recorded, and the disk failed while its entry was
--- put at one more reading of the clock: the disk keeps the history with that entry or without it.
+-- put at one more reading of the clock: the disk keeps the history with that entry or without it, and nothing was changed
+-- but behind that history, where a put writes.
 pub record FailsToPut {S K D C : Type 0} (m : Meanings S K D C) (old new : Parts S K D C) (site : Site) (head : LaneHead)
-    (next : List (List ℕ)) (given : List ℕ) (after : List Entry) : Type 0 where
+    (next : List (List ℕ)) (given : List ℕ) (before after : List Entry) : Type 0 where
   pub line : List ℕ
   pub next_is : next ≡ line ∷ []
   pub request : Request
@@ -157,12 +172,18 @@ pub record FailsToPut {S K D C : Type 0} (m : Meanings S K D C) (old new : Parts
   pub contents : Changes
       (λ _ bytes. IsLedgerOf bytes after ⊎ IsLedgerOf bytes (recorded_after after request (moment_at minute site.offset)))
       (m.shown old.disk).contents (m.shown new.disk).contents
+  pub around : Changes
+      (λ was bytes. (failed : ℕ) × (middle : List ℕ) × GrowsTo before after was middle
+      × ChangesAtEnd failed after (recorded_after after request (moment_at minute site.offset)) middle bytes)
+      (m.shown old.disk).contents (m.shown new.disk).contents
   pub cause : Rose (m.shown old.disk).faults (m.shown new.disk).faults
 
--- the disk keeps the history, at rest, and the clock was read for its new entries alone
-pub record KeepsHistory {S K D C : Type 0} (m : Meanings S K D C) (old new : Parts S K D C) (given : List ℕ) (after : List Entry) : Type 0 where
+-- The disk keeps the history, which went on from the one before, at rest; nothing was changed but behind that one, and
+-- nothing at all where it has no new entry. The clock was read for its new entries alone.
+pub record KeepsHistory {S K D C : Type 0} (m : Meanings S K D C) (old new : Parts S K D C) (given : List ℕ) (before after : List Entry) : Type 0 where
   pub readings : m.readings new.clock ≡ append_known (m.readings old.clock) given
   pub contents : Changes (λ _ bytes. IsLedgerOf bytes after) (m.shown old.disk).contents (m.shown new.disk).contents
+  pub grows : Changes (GrowsTo before after) (m.shown old.disk).contents (m.shown new.disk).contents
   pub rest : IsAtRest (m.shown new.disk)
 
 -- the line behind those that were answered asks for a request that was to be recorded
@@ -179,7 +200,7 @@ OrdersExtraction head next =
 -- The line behind those that were answered, which has this number, orders an extraction, and a front of it was written, at
 -- one more reading of the clock. The disk keeps the history, at rest.
 pub record CutsExtraction {S K D C : Type 0} (m : Meanings S K D C) (old new : Parts S K D C) (site : Site) (head : LaneHead) (number : ℕ)
-    (next : List (List ℕ)) (put given : List ℕ) (after : List Entry) : Type 0 where
+    (next : List (List ℕ)) (put given : List ℕ) (before after : List Entry) : Type 0 where
   pub line : List ℕ
   pub next_is : next ≡ line ∷ []
   pub seq : ℕ
@@ -192,7 +213,7 @@ pub record CutsExtraction {S K D C : Type 0} (m : Meanings S K D C) (old new : P
   pub front : due.front ≡ length after
   pub made : IsSome (m.shown old.disk).contents → IsExtractOf site after from to minute due.size due.afd
   pub cut : IsStrictFront put (extract_bytes number seq due)
-  pub keeps : KeepsHistory m old new (given ++ minute ∷ []) after
+  pub keeps : KeepsHistory m old new (given ++ minute ∷ []) before after
 
 -- Of the replies so many are written wholly, and then these bytes: none more; or a front of the next; or of the extraction
 -- that the line behind them orders.
@@ -204,27 +225,27 @@ CutsReply replies whole put = (suc whole ≡ length replies) × IsStrictFront pu
 
 -- what is left by the lane's end, with its cause, and what was written of the replies
 abbrev pub LeavesStore : {S K D C : Type 0} → Meanings S K D C → Parts S K D C → Parts S K D C → Site → LaneHead → List (List ℕ) → ℕ → List ℕ
-    → List (List ℕ) → List ℕ → List Entry → End → Type 0
-LeavesStore m old new site head replies whole put next given after Done = AllWritten replies whole put × KeepsHistory m old new given after × (next ≡ [])
-LeavesStore m old new site head replies whole put next given after SourceFault =
-    AllWritten replies whole put × KeepsHistory m old new given after × (next ≡ [])
+    → List (List ℕ) → List ℕ → List Entry → List Entry → End → Type 0
+LeavesStore m old new site head replies whole put next given before after Done = AllWritten replies whole put × KeepsHistory m old new given before after × (next ≡ [])
+LeavesStore m old new site head replies whole put next given before after SourceFault =
+    AllWritten replies whole put × KeepsHistory m old new given before after × (next ≡ [])
     × Rose (m.source_faults old.lane) (m.source_faults new.lane)
-LeavesStore m old new site head replies whole put next given after InputLimit =
-    AllWritten replies whole put × KeepsHistory m old new given after × (next ≡ [])
-LeavesStore m old new site head replies whole put next given after SinkFault =
-    ((CutsReply replies whole put × KeepsHistory m old new given after × (next ≡ []))
-    ⊎ ((whole ≡ length replies) × CutsExtraction m old new site head (first_line + length replies) next put given after))
+LeavesStore m old new site head replies whole put next given before after InputLimit =
+    AllWritten replies whole put × KeepsHistory m old new given before after × (next ≡ [])
+LeavesStore m old new site head replies whole put next given before after SinkFault =
+    ((CutsReply replies whole put × KeepsHistory m old new given before after × (next ≡ []))
+    ⊎ ((whole ≡ length replies) × CutsExtraction m old new site head (first_line + length replies) next put given before after))
     × Rose (m.sink_faults old.replies) (m.sink_faults new.replies)
-LeavesStore m old new site head replies whole put next given after Stopped = ⊥
-LeavesStore m old new site head replies whole put next given after DeviceFault =
-    ((AllWritten replies whole put × FailsToPut m old new site head next given after)
-    ⊎ ((whole ≡ length replies) × CutsExtraction m old new site head (first_line + length replies) next put given after))
+LeavesStore m old new site head replies whole put next given before after Stopped = ⊥
+LeavesStore m old new site head replies whole put next given before after DeviceFault =
+    ((AllWritten replies whole put × FailsToPut m old new site head next given before after)
+    ⊎ ((whole ≡ length replies) × CutsExtraction m old new site head (first_line + length replies) next put given before after))
     × Rose (m.shown old.disk).faults (m.shown new.disk).faults
-LeavesStore m old new site head replies whole put next given after ClockFault =
-    AllWritten replies whole put × KeepsHistory m old new given after × (IsDue site head next after ⊎ OrdersExtraction head next)
+LeavesStore m old new site head replies whole put next given before after ClockFault =
+    AllWritten replies whole put × KeepsHistory m old new given before after × (IsDue site head next after ⊎ OrdersExtraction head next)
     × Rose (m.clock_faults old.clock) (m.clock_faults new.clock)
-LeavesStore m old new site head replies whole put next given after OutOfMemory =
-    AllWritten replies whole put × KeepsHistory m old new given after × IsDue site head next after
+LeavesStore m old new site head replies whole put next given before after OutOfMemory =
+    AllWritten replies whole put × KeepsHistory m old new given before after × IsDue site head next after
 
 -- the text begins with the head, and these lines come behind it; the lane's end says this of it
 pub record TakesLane (text : List ℕ) (head : LaneHead) (taken : List (List ℕ)) (ended : End) : Type 0 where
@@ -284,12 +305,15 @@ pub record ServesLane {S K D C : Type 0} (m : Meanings S K D C) (old new : Parts
   pub says : Says (replies_from first_line answers) whole (m.written old.replies) (m.written new.replies)
   -- where nothing was to be written, the sink wasn't called
   pub unopened : answers ≡ [] → ended ≢ SinkFault → (ended ≡ DeviceFault → head.kind ≢ operator) → new.replies ≡ old.replies
-  pub leaves : LeavesStore m old new site head (replies_from first_line answers) whole says.next next given after ended
+  pub leaves : LeavesStore m old new site head (replies_from first_line answers) whole says.next next given before after ended
   pub reached : List Entry
-  pub reached_is : (reached ≡ after) ⊎ ((ended ≡ DeviceFault) × (fails : FailsToPut m old new site head next given after)
+  pub reached_is : (reached ≡ after) ⊎ ((ended ≡ DeviceFault) × (fails : FailsToPut m old new site head next given before after)
       × (reached ≡ recorded_after after fails.request (moment_at fails.minute site.offset)))
   pub safe : IsSafe ((m.shown old.disk).moment + 2) before reached (receipts_at (m.shown new.disk).moment answers)
       (m.shown old.disk) (m.shown new.disk)
+  -- and where the disk was at rest before, so it is from the beginning on
+  pub safe_from_rest : IsAtRest (m.shown old.disk) → IsSafe (m.shown old.disk).moment before reached
+      (receipts_at (m.shown new.disk).moment answers) (m.shown old.disk) (m.shown new.disk)
   pub due : Ending
   pub due_is : EndsAs answers ended due
   pub told : Ending

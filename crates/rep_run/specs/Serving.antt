@@ -1,6 +1,7 @@
 -- What serving a lane over a store leaves, once both are open: this project's own.
 use Rattle.std.specs.Prelude.{◌≡◌, ◌==◌, ℕ, ◌+◌, ◌≤◌, List, [], if◌then◌else◌, Option, Some, Ok}
 use Rattle.rep_io.specs.Cutter.{Cutter}
+use Rattle.rep_disk.specs.Disk.{IsAtRest}
 use Rattle.rep_wire.specs.LaneGrammar.{IsLaneHead}
 use Rattle.rep_wire.specs.declared.head.LaneHead.{LaneHead}
 use Rattle.rep_site.specs.declared.site.Site.{Site}
@@ -41,6 +42,7 @@ pub record Opens {S K D C : Type 0} (m : Meanings S K D C) (old : Parts S K D C)
   pub lane_later : m.source_faults old.lane ≤ m.source_faults lines.source
   pub reopens : Reopens m.shown site old.disk old.clock store
   pub safe : IsSafe ((m.shown old.disk).moment + 2) store.history store.history [] (m.shown old.disk) (m.shown store.disk)
+  pub safe_from_rest : IsAtRest (m.shown old.disk) → IsSafe (m.shown old.disk).moment store.history store.history [] (m.shown old.disk) (m.shown store.disk)
   pub same_replies : old.replies ≡ replies
 
 -- whatever the call was handed of which that was opened, its lane was served

@@ -1,5 +1,5 @@
 //! `create`.
-ghost use Rattle.std.specs.Prelude.{◌≡◌, ◌⊎◌, ◌↔◌, ◌≤◌, ℕ, List, IfSome, IsTrue, Some};
+ghost use Rattle.std.specs.Prelude.{◌≡◌, ◌≢◌, ◌⊎◌, ◌↔◌, ◌≤◌, ℕ, List, IfSome, IsTrue, Some};
 ghost use Rattle.rep_io.specs.Causes.{Rose};
 ghost use Rattle.rep_disk.specs.Disk.{IsAtRest};
 ghost use Rattle.rep_journal.specs.Format.{IsBlank};
@@ -48,6 +48,10 @@ pub fn create<S: Source, K: Sink, D: Disk, C: Clock>(
     ensures sink_fault { result.status ≡ 5 → Rose (K.faults out) (K.faults result.out) }
     ensures device_fault { result.status ≡ 6 → Rose (D.shown disk).faults (D.shown result.disk).faults }
     ensures clock_fault { result.status ≡ 7 → Rose (C.faults clock) (C.faults result.clock) }
+    // No fault is passed over.
+    ensures no_source_fault { result.status ≢ 4 → S.faults result.source ≡ S.faults source }
+    ensures no_device_fault { result.status ≢ 6 → (D.shown result.disk).faults ≡ (D.shown disk).faults }
+    ensures no_clock_fault { result.status ≢ 7 → C.faults result.clock ≡ C.faults clock }
     // A crash in this call leaves a blank disk, or the journal with its one entry.
     ensures safe { IsAtRest (D.shown disk) → IfSome (D.shown disk).contents IsBlank
         → CrashesSafely (record { left = S.left; source_faults = S.faults; shown = D.shown; readings = C.readings; clock_faults = C.faults })
@@ -98,6 +102,12 @@ fn make<S: Source, D: Disk, C: Clock>(
         (record { source = source.old; disk = disk; clock = clock })
         (record { source = source.new; disk = result.disk; clock = result.clock }) }
     ensures source_later { S.faults source.old ≤ S.faults source.new }
+    // No fault is passed over.
+    ensures no_source_fault { result.stopping ≢ Stopping.Ended Ending.SourceFault
+        → S.faults source.new ≡ S.faults source.old }
+    ensures no_device_fault { result.stopping ≢ Stopping.Ended Ending.DeviceFault
+        → (D.shown result.disk).faults ≡ (D.shown disk).faults }
+    ensures no_clock_fault { result.stopping ≢ Stopping.Ended Ending.ClockFault → C.faults result.clock ≡ C.faults clock }
     ensures found { (text : List ℕ) (site : Site) → S.left source.old ≡ Some text → SaysSite text site
         → IfSome (D.shown disk).contents (λ bytes. IsBlank bytes → IsMadeOrFails result.stopping) }
 {

@@ -1,5 +1,5 @@
 //! `run`.
-ghost use Rattle.std.specs.Prelude.{◌≡◌, ◌⊎◌, ℕ, List, Some};
+ghost use Rattle.std.specs.Prelude.{◌≡◌, ◌≢◌, ◌⊎◌, ℕ, List, Some};
 ghost use Rattle.rep_io.specs.Causes.{Rose};
 ghost use Rattle.rep_run.specs.Running.{IsServable, Meanings, Parts, Ran};
 
@@ -59,6 +59,13 @@ pub fn run<S: Source, K: Sink, D: Disk, C: Clock>(
         → Rose (K.faults replies) (K.faults result.replies) ⊎ Rose (K.faults out) (K.faults result.out) }
     ensures device_fault { result.status ≡ 6 → Rose (D.shown disk).faults (D.shown result.disk).faults }
     ensures clock_fault { result.status ≡ 7 → Rose (C.faults clock) (C.faults result.clock) }
+    // No fault is passed over. One of `out` at the counts is told in the place of another.
+    ensures no_source_fault { result.status ≢ 4 → result.status ≢ 5
+        → (S.faults result.site ≡ S.faults site) × (S.faults result.lane ≡ S.faults lane) }
+    ensures no_sink_fault { result.status ≢ 5 → K.faults result.replies ≡ K.faults replies }
+    ensures no_device_fault { result.status ≢ 6 → result.status ≢ 5
+        → (D.shown result.disk).faults ≡ (D.shown disk).faults }
+    ensures no_clock_fault { result.status ≢ 7 → result.status ≢ 5 → C.faults result.clock ≡ C.faults clock }
     // Where nothing is refused as a whole and nothing of the outside fails, every line is answered, unless memory is short.
     ensures complete { (site_text lane_text contents : List ℕ) → S.left site ≡ Some site_text → S.left lane ≡ Some lane_text
         → (D.shown disk).contents ≡ Some contents → IsServable site_text lane_text contents

@@ -1,5 +1,5 @@
 //! A lane served over a store.
-ghost use Rattle.std.specs.Prelude.{◌≡◌, ◌≤◌};
+ghost use Rattle.std.specs.Prelude.{◌≡◌, ◌≢◌, ◌≤◌};
 ghost use Rattle.rep_wire.specs.LaneGrammar.{IsLaneHead};
 ghost use Rattle.rep_report.specs.declared.ending.Ending.{Ending};
 ghost use Rattle.rep_lane.specs.declared.lane.End.{End};
@@ -45,6 +45,14 @@ pub fn serve<S: Source, K: Sink, D: Disk, C: Clock>(
         (record { lane = result.lane; disk = result.disk; clock = result.clock; replies = result.replies })
         (K.written out.old) (K.written out.new) (K.faults out.old) (K.faults out.new) result.told }
     ensures out_later { K.faults out.old ≤ K.faults out.new }
+    // No fault is passed over. One of `out` at the counts is told in the place of another.
+    ensures no_source_fault { result.told ≢ Ending.SourceFault → result.told ≢ Ending.SinkFault
+        → S.faults result.lane ≡ S.faults lines.source }
+    ensures no_sink_fault { result.told ≢ Ending.SinkFault → K.faults result.replies ≡ K.faults replies }
+    ensures no_device_fault { result.told ≢ Ending.DeviceFault → result.told ≢ Ending.SinkFault
+        → (D.shown result.disk).faults ≡ (D.shown store.disk).faults }
+    ensures no_clock_fault { result.told ≢ Ending.ClockFault → result.told ≢ Ending.SinkFault
+        → C.faults result.clock ≡ C.faults store.clock }
 {
     let mut desk = StoreDesk { store };
     let done = rep_lane::run(head, FIRST_LINE, lines, replies, &mut desk);

@@ -1,5 +1,7 @@
 //! The text of a site.
-ghost use Rattle.std.specs.Prelude.{◌≡◌, ◌⊎◌, ◌≤◌, ℕ, List, Ok, Err, Some};
+ghost use Rattle.std.specs.Prelude.{◌≡◌, ◌≢◌, ◌⊎◌, ◌≤◌, ℕ, List, Ok, Err, Some};
+ghost use Rattle.rep_report.specs.declared.ending.Ending.{Ending};
+ghost use Rattle.rep_run.specs.declared.stopping.Stopping.{Stopping};
 ghost use Rattle.rep_site.specs.declared.site.Site.{Site};
 ghost use Rattle.rep_run.specs.Settings.{ReadsSite, SaysSite};
 ghost use Rattle.rep_run.specs.Steps.{FailsToRead, reading_ending, site_stopping};
@@ -15,11 +17,13 @@ use std::alloc::Global;
 ///
 /// # Errors
 ///
-/// A refusal where the text is no site's. `SourceFault` only where the source failed in this call, `InputLimit` where the
+/// A refusal where the text is no site's. `SourceFault` exactly where the source failed in this call, `InputLimit` where the
 /// text is too long. `OutOfMemory`.
 pub fn read_site<S: Source>(alloc: Global, source: &mut S) -> Result<Site, Stopping>
     ensures reads { ReadsSite S.left S.faults source.old source.new result }
     ensures later { S.faults source.old ≤ S.faults source.new }
+    // No failure of the source is passed over.
+    ensures no_fault { result ≢ Err (Stopping.Ended Ending.SourceFault) → S.faults source.new ≡ S.faults source.old }
     // The text of a site is read as that site, unless memory is short or the source fails.
     ensures found { (text : List ℕ) (site : Site) → S.left source.old ≡ Some text → SaysSite text site
         → (result ≡ Ok site) ⊎ FailsToRead (S.faults source.old) (S.faults source.new) result }

@@ -1,5 +1,7 @@
 //! The texts of `run`: the site's, and the head of the lane.
-ghost use Rattle.std.specs.Prelude.{◌≡◌, ◌≤◌, ℕ, List, IfOk, IfErr, Some};
+ghost use Rattle.std.specs.Prelude.{◌≡◌, ◌≢◌, ◌≤◌, ℕ, List, IfOk, IfErr, Err, Some};
+ghost use Rattle.rep_report.specs.declared.ending.Ending.{Ending};
+ghost use Rattle.rep_run.specs.declared.stopping.Stopping.{Stopping};
 ghost use Rattle.rep_site.specs.declared.site.Site.{Site};
 ghost use Rattle.rep_run.specs.Settings.{SaysSite};
 ghost use Rattle.rep_run.specs.Steps.{BeginsTexts, IsSiteRefusal, StopsAtTexts, head_stopping};
@@ -25,7 +27,7 @@ pub struct Texts {
 ///
 /// # Errors
 ///
-/// A refusal of the site's text, or `NoHead` of the lane. `SourceFault` only where one of the sources failed in this call,
+/// A refusal of the site's text, or `NoHead` of the lane. `SourceFault` exactly where one of the sources failed in this call,
 /// `InputLimit` where a text is too long. `OutOfMemory`.
 pub fn read_texts<S: Source>(
     alloc: Global,
@@ -36,6 +38,10 @@ pub fn read_texts<S: Source>(
     ensures stops { IfErr result (StopsAtTexts S.left S.faults site.old site.new lines.old lines.new) }
     ensures site_later { S.faults site.old ≤ S.faults site.new }
     ensures lane_later { S.faults lines.old.source ≤ S.faults lines.new.source }
+    // No failure of a source is passed over.
+    ensures no_site_fault { result ≢ Err (Stopping.Ended Ending.SourceFault) → S.faults site.new ≡ S.faults site.old }
+    ensures no_lane_fault { result ≢ Err (Stopping.Ended Ending.SourceFault)
+        → S.faults lines.new.source ≡ S.faults lines.old.source }
     // The text of a site isn't refused.
     ensures found { (text : List ℕ) (site_said : Site) → S.left site.old ≡ Some text → SaysSite text site_said
         → IfErr result (λ stopping. ¬ IsSiteRefusal stopping) }

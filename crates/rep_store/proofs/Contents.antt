@@ -11,13 +11,6 @@ use Rattle.rep_ledger.specs.Ledger.{IsLedgerOf, IsLedgerWithin, frames_of, next_
 use Rattle.rep_ledger.proofs.LedgerLemmas.{frames_of-push}
 use Rattle.rep_store.specs.Steps.{IsLeftAt}
 
--- a weaker step
-pub Changes-weaker : (old new : Option (List ℕ)) (P Q : List ℕ → List ℕ → Type 0) → ((a b : List ℕ) → old ≡ Some a → P a b → Q a b) → Changes P old new → Changes Q old new
-Changes-weaker None None P Q weaker changes = changes
-Changes-weaker None (Some b) P Q weaker changes = absurd changes
-Changes-weaker (Some a) None P Q weaker changes = absurd changes
-Changes-weaker (Some a) (Some b) P Q weaker changes = weaker a b refl changes
-
 -- what holds of contents after a step
 pub after_change : (old new : Option (List ℕ)) (P : List ℕ → Type 0) → Changes (λ _ bytes. P bytes) old new → IfSome new P
 after_change None None P changes = tt
@@ -37,6 +30,11 @@ told_after None None P changes told = told
 told_after None (Some b) P changes told = refl
 told_after (Some a) None P changes told = absurd changes
 told_after (Some a) (Some b) P changes told = refl
+
+-- what holds of contents that are told holds where it was shown of such
+pub where_told : (o : Option (List ℕ)) (P : List ℕ → Type 0) → (IsSome o → IfSome o P) → IfSome o P
+where_told None P holds = tt
+where_told (Some bytes) P holds = holds refl
 
 pub told_as : (o : Option (List ℕ)) (bytes : List ℕ) → o ≡ Some bytes → IsSome o
 told_as o bytes is = subst IsSome (sym is) refl

@@ -1,12 +1,12 @@
 -- What an extraction puts, from what its parts put.
-use Rattle.std.proofs.Common.{◌≡◌, ◌≢◌, ℕ, ◌+◌, ◌-◌, ◌<◌, ◌≤◌, List, [], ◌∷◌, ◌++◌, length, take, drop, map, Bool, true, false, Option, Some, None, Result, Ok, Err, refl, sym, ap, subst, ◌∙◌, append_assoc, append-nil, arith, length-drop}
+use Rattle.std.proofs.Common.{◌≡◌, ℕ, ◌+◌, ◌-◌, ◌<◌, List, [], ◌∷◌, ◌++◌, length, take, drop, Bool, true, false, Option, Some, None, Result, Ok, Err, refl, sym, ap, subst, ◌∙◌, append_assoc, append-nil, arith, length-drop}
 use Rattle.std.proofs.lemmas.List.{length-map, length-take}
-use Rattle.std.specs.Prelude.{IfOk, IfSome, IsSome, MatchResult, is_err}
+use Rattle.std.specs.Prelude.{IfOk, IfSome, IsSome, is_err}
 use Rattle.std.specs.Io.KnownBytes.{append_known}
 use Rattle.std.proofs.lemmas.List.{take-append-drop}
 use Rattle.afd_records.specs.File.{counts_of, file_text}
 use Rattle.afd_records.specs.declared.header.Head.{Head}
-use Rattle.rep_disk.specs.Disk.{Shown, IsAtRest}
+use Rattle.rep_disk.specs.Disk.{Shown}
 use Rattle.rep_io.specs.Streams.{WritesAll}
 use Rattle.rep_wire.specs.declared.request.Entry.{Entry}
 use Rattle.rep_core.specs.Chained.{history_lines}
@@ -14,10 +14,11 @@ use Rattle.rep_core.specs.Core.{Kept}
 use Rattle.rep_core.specs.History.{bodies_of, days_of}
 use Rattle.rep_core.proofs.Lines.{length-history_lines}
 use Rattle.rep_journal.specs.Format.{Framed}
-use Rattle.rep_journal.specs.State.{IsRead, IsSame}
+use Rattle.rep_journal.specs.State.{IsSame}
 use Rattle.rep_ledger.specs.Ledger.{IsLedgerOf, frames_of, frames_with}
+use Rattle.rep_ledger.proofs.DiskSteps.{IsAtRest-read}
 use Rattle.rep_site.specs.declared.site.Site.{Site}
-use Rattle.afd_extract.specs.Extract.{AreLinesIn, IsPut, IsRangeIn, IsStrictFront, WritesExtract, extract_text, lines_in, lines_of}
+use Rattle.afd_extract.specs.Extract.{AreLinesIn, IsRangeIn, IsStrictFront, WritesExtract, extract_text, lines_in, lines_of}
 use Rattle.afd_extract.specs.Period.{IsPeriod, Range, in_range}
 use Rattle.afd_extract.specs.declared.error.WriteFail.{WriteFail}
 use Rattle.rep_store.specs.Device.{Device, journal_of}
@@ -27,7 +28,6 @@ use Rattle.rep_store.specs.State.{CountsStop, IsKept}
 use Rattle.rep_store.specs.Steps.{Ticks}
 use Rattle.rep_store.specs.declared.error.ExtractFail.{ExtractFail}
 use Rattle.rep_store.specs.declared.extracting.Lead.{Lead}
-use Rattle.rep_store.proofs.Foundings.{IsAtRest-read}
 use Rattle.rep_store.proofs.Parts.{settled_of}
 use Rattle.rep_store.proofs.Sizes.{range_within}
 
@@ -177,6 +177,7 @@ IsWhole-read shown core device device' site failed whole running runs same =
       founded = whole.founded;
       numbers = whole.numbers;
       limit = whole.limit;
+      of_site = whole.of_site;
       is_site = whole.is_site;
       disk = subst (λ o. IsKept o core.entries (shown device'.disk)) (sym runs) (record {
         holds = subst (λ o. IfSome o (λ bytes. IsLedgerOf bytes core.entries)) (sym same.disk.contents) settled.holds;

@@ -23,7 +23,7 @@ use Rattle.rep_journal.specs.declared.error.WhyNot.{WhyNot}
 use Rattle.rep_journal.specs.declared.error.WhyNot.TheVariants as why
 use Rattle.rep_ledger.specs.Ledger.{IsLedgerOf, frames_of, next_frame}
 use Rattle.rep_ledger.specs.Safety.{IsSafe, Receipted}
-use Rattle.rep_ledger.proofs.DiskSteps.{Stayed-at}
+use Rattle.rep_ledger.proofs.DiskSteps.{Changes-weaker, IsAtRest-read}
 use Rattle.rep_ledger.proofs.LedgerLemmas.{frames_of-push}
 use Rattle.rep_ledger.proofs.SafetyLemmas.{IsFrontOf-nil, IsFrontOf-refl, Secures-create, Secures-read, Secures-trans}
 use Rattle.rep_store.specs.Device.{Device, running}
@@ -35,7 +35,7 @@ use Rattle.rep_store.specs.State.{State}
 use Rattle.rep_store.specs.Steps.{Ticks, recorded_at}
 use Rattle.rep_store.specs.declared.error.NoStore.{NoStore}
 use Rattle.rep_store.specs.declared.error.StoreWhy.TheVariants.{ClockFault, Journal}
-use Rattle.rep_store.proofs.Contents.{Changes-weaker, after_change}
+use Rattle.rep_store.proofs.Contents.{after_change}
 use Rattle.rep_store.proofs.Openings.{blank_images}
 
 -- on a blank disk at rest that was read at most a crash leaves the empty history
@@ -45,12 +45,6 @@ IsSafe-blank a b rest blank read told below =
 
 pub CrashesSafely-blank : {C : Type 0} (readings_of : C → Option (List ℕ)) (faults_of : C → ℕ) (q : Request) (offset : ℤ) (clock clock' : C) (a b : Shown) → IsAtRest a → IfSome a.contents IsBlank → IsRead a b → CrashesSafely readings_of faults_of q offset clock clock' a b
 CrashesSafely-blank readings_of faults_of q offset clock clock' a b rest blank read = record { reading = None; taken = tt; safe = IsSafe-blank a b rest blank read }
-
--- a disk at rest stays so when it is read
-pub IsAtRest-read : (a b : Shown) → IsAtRest a → IsRead a b → IsAtRest b
-IsAtRest-read a b rest read below image leaves =
-    subst (λ o. IfSome o (λ bytes. image ≡ bytes)) (sym read.contents)
-    (rest (omega (arith, read.later)) image ((Stayed-at a b (read.crash below) b.moment image read.later (omega arith)).0 leaves))
 
 -- what a crash leaves of a blank disk that was read before
 IsSafe-read_before : (h : List Entry) (a b c : Shown) → IsAtRest a → IfSome a.contents IsBlank → IsRead a b → b.moment ≤ c.moment → (IsAtRest b → IsSafe b.moment [] h [] b c) → IsSafe a.moment [] h [] a c
@@ -94,6 +88,7 @@ module _ {D C : Type 0} (shown : D → Shown) (readings_of : C → Option (List 
           founded = subst IsFounded (sym entries) is_founded;
           numbers = omega (arith, ap length entries);
           limit = subst IsLimit (sym limit) (is_site.some_nsr, is_site.last_nsr);
+          of_site = limit ∙ ap (λ (s : Site). s.last_nsr) (sym is_copy);
           is_site = subst IsSite (sym is_copy) is_site;
           disk = record {
             holds = after_change (shown vacant).contents (shown made.disk).contents (λ bytes. IsLedgerOf bytes core'.entries) contents;
@@ -117,7 +112,7 @@ module _ {D C : Type 0} (shown : D → Shown) (readings_of : C → Option (List 
             rest = begins.rest;
             later = begins.later;
             own = begins.own;
-            disk_faults = begins.disk_faults;
+            no_fault = begins.no_fault;
           };
         })
 
@@ -158,7 +153,7 @@ module _ {D C : Type 0} (shown : D → Shown) (readings_of : C → Option (List 
     }
 
 -- what a store's founding answers, where the disk was read before
-module _ {D C : Type 0} (shown : D → Shown) (readings_of : C → Option (List ℕ)) (faults_of : C → ℕ) (site : Site) (disk vacant : D) (clock : C) (read : IsRead (shown disk) (shown vacant)) (blank : IfSome (shown disk).contents IsBlank) where
+module _ {D C : Type 0} (shown : D → Shown) (readings_of : C → Option (List ℕ)) (faults_of : C → ℕ) (site : Site) (disk vacant : D) (clock : C) (read : IsRead (shown disk) (shown vacant)) (no_fault : (shown vacant).faults ≡ (shown disk).faults) (blank : IfSome (shown disk).contents IsBlank) where
   Creates-read : (s : State D C) → FoundsStore shown readings_of faults_of site (founding_request site) vacant clock s → Creates shown readings_of faults_of site disk clock s
   Creates-read s founded =
       let founds = founded.founds in
@@ -174,7 +169,7 @@ module _ {D C : Type 0} (shown : D → Shown) (readings_of : C → Option (List 
           rest = founds.rest;
           later = omega (arith, founds.later, read.later);
           own = (λ own. founds.own.0 (read.own.0 own), λ own. read.own.1 (founds.own.1 own));
-          disk_faults = omega (arith, founds.disk_faults, read.faults);
+          no_fault = founds.no_fault ∙ no_fault;
         };
       }
 
@@ -218,6 +213,16 @@ module _ {D C : Type 0} (shown : D → Shown) (readings_of : C → Option (List 
   device_fault_by (Ok s) refused = tt
   device_fault_by (Err none) (inl no_time) = λ same. let differs : ClockFault ≡ Journal why.DeviceFault = sym no_time.0 ∙ same in absurd cc
   device_fault_by (Err none) (inr fault) = λ same. inr (FailsToFound-read none.disk none.clock fault.1)
+
+  pub no_device_fault_by : (result : Result (State D C) (NoStore D C)) → IfErr result (FoundsNone shown readings_of faults_of site (founding_request site) vacant clock) → IfErr result (λ e. e.why ≢ Journal why.DeviceFault → (shown e.disk).faults ≡ (shown disk).faults)
+  no_device_fault_by (Ok s) refused = tt
+  no_device_fault_by (Err none) (inl no_time) = λ other. ap (λ d. (shown d).faults) no_time.1 ∙ no_fault
+  no_device_fault_by (Err none) (inr fault) = λ other. absurd (other fault.0)
+
+  pub no_clock_fault_by : (result : Result (State D C) (NoStore D C)) → IfErr result (FoundsNone shown readings_of faults_of site (founding_request site) vacant clock) → IfErr result (λ e. e.why ≢ ClockFault → faults_of e.clock ≡ faults_of clock)
+  no_clock_fault_by (Ok s) refused = tt
+  no_clock_fault_by (Err none) (inl no_time) = λ other. absurd (other no_time.0)
+  no_clock_fault_by (Err none) (inr fault) = λ other. fault.1.ticks.no_fault
 
   pub kept_by : (result : Result (State D C) (NoStore D C)) → IfErr result (FoundsNone shown readings_of faults_of site (founding_request site) vacant clock) → IfErr result (λ e. e.why ≢ Journal why.DeviceFault → IsRead (shown disk) (shown e.disk) × (readings_of e.clock ≡ readings_of clock))
   kept_by (Ok s) refused = tt

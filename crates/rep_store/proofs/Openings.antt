@@ -1,6 +1,6 @@
 -- What the calls that make a store answer, from what the calls of the journal answer.
 use Rattle.std.proofs.Common.{◌≡◌, ◌≢◌, ℕ, ◌<◌, ◌⊎◌, inl, inr, List, [], Option, Some, None, Result, Ok, Err, refl, sym, ap, subst, ◌∙◌}
-use Rattle.std.specs.Prelude.{IfSome, IsOkAnd, IsSome}
+use Rattle.std.specs.Prelude.{◌↔◌, IfSome, IsOkAnd, IsSome}
 use Rattle.rep_disk.specs.Disk.{Shown, IsAtRest, last_moment}
 use Rattle.rep_wire.specs.declared.request.Entry.{Entry}
 use Rattle.rep_core.specs.Valid.{IsFounded}
@@ -17,6 +17,7 @@ use Rattle.rep_journal.proofs.KindLemmas.{journal_magic, kept_not_blank}
 use Rattle.rep_ledger.proofs.ContentLemmas.{broken_alone, ledger_not_damaged, misfit_frames, one_content, one_ledger}
 use Rattle.rep_ledger.proofs.DiskSteps.{IfSome-weaker}
 use Rattle.rep_ledger.proofs.SafetyLemmas.{founded_frames}
+use Rattle.rep_store.specs.Making.{RestsUnlessFailed}
 use Rattle.rep_store.specs.Outcome.{IsCutShort, IsRefused, Refuses, RefusesWhere, why_of}
 use Rattle.rep_store.specs.declared.error.NoStore.{NoStore}
 use Rattle.rep_store.specs.declared.error.StoreWhy.{StoreWhy}
@@ -169,10 +170,15 @@ pub unread_found : {E D C : Type 0} (reason : NotReplayed) (none : NoStore D C) 
 unread_found reason none None frames P h is kept misfit = tt
 unread_found {E = E} reason none (Some bytes) frames P h is kept misfit = λ ledger. inr (unread_ledger E reason none bytes frames h is kept.0 (λ n same. misfit n same refl) ledger)
 
+-- what a journal that was refused leaves of the disk's rest
+pub rest_refused : (reason : WhyNot) (old new : Shown) → journal.RestsUnlessFailed reason old new → RestsUnlessFailed (Journal reason) old new
+rest_refused reason old new (inl failed) = inl (ap Journal failed.0, failed.1)
+rest_refused reason old new (inr rests) = inr rests
+
 -- each image of a blank disk at rest keeps the empty history
 pub blank_images : (s : Shown) → IsAtRest s → IfSome s.contents IsBlank → IsSome s.contents → s.moment < last_moment → (image : List ℕ) → s.may_leave s.moment image → IsImageOf image []
-blank_images s rest blank told below image leaves = blank_image s.contents (rest below image leaves) blank told
+blank_images s rest blank told below image leaves = blank_image s.contents (rest below image) blank told
   where
-    blank_image : (o : Option (List ℕ)) → IfSome o (λ bytes. image ≡ bytes) → IfSome o IsBlank → IsSome o → IsImageOf image []
+    blank_image : (o : Option (List ℕ)) → IfSome o (λ bytes. s.may_leave s.moment image ↔ image ≡ bytes) → IfSome o IsBlank → IsSome o → IsImageOf image []
     blank_image None same blank' told' = absurd cc
-    blank_image (Some bytes) same blank' told' = inr (refl, subst IsBlank (sym same) blank')
+    blank_image (Some bytes) same blank' told' = inr (refl, subst IsBlank (sym (same.0 leaves)) blank')

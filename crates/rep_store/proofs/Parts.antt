@@ -1,9 +1,9 @@
 -- The parts of a store after each kind of step.
-use Rattle.std.proofs.Common.{◌≡◌, ℕ, ◌+◌, ◌≤◌, ◌↔◌, List, [], ◌∷◌, ◌++◌, length, drop, Option, Some, None, refl, sym, ap, subst, ◌∙◌, arith, length-append}
+use Rattle.std.proofs.Common.{◌≡◌, ℕ, ◌+◌, ◌<◌, ◌≤◌, ◌↔◌, List, [], ◌∷◌, ◌++◌, length, drop, Option, Some, None, refl, sym, ap, subst, ◌∙◌, arith, length-append}
 use Rattle.std.specs.Prelude.{IfSome, IsSome}
 use Rattle.rep_fields.specs.Moment.{Moment, IsMoment}
 use Rattle.afd_records.specs.Record.{last_nsr}
-use Rattle.rep_disk.specs.Disk.{Shown, Changes}
+use Rattle.rep_disk.specs.Disk.{Shown, Changes, last_moment}
 use Rattle.rep_wire.specs.Request.{IsRequest}
 use Rattle.rep_wire.specs.declared.request.Entry.{Entry}
 use Rattle.rep_wire.specs.declared.request.Request.{Request}
@@ -18,8 +18,11 @@ use Rattle.rep_core.proofs.Verdicts.{fresh_within}
 use Rattle.rep_journal.specs.Format.{Framed, IsJournalOf, closed_gate, end_of, front_text}
 use Rattle.rep_journal.specs.State.{IsWithOrWithout, Leaves}
 use Rattle.rep_journal.specs.State as journal
+use Rattle.rep_journal.specs.Recovery.{IsOpenAtGate, OpensGate}
 use Rattle.rep_ledger.specs.Ledger.{IsLedgerOf, IsLedgerWithin, frames_of, next_frame}
-use Rattle.rep_ledger.proofs.DiskSteps.{IsAtRest-untouched, IsRead-untouched}
+use Rattle.rep_ledger.specs.Leaving.{ChangesAtEnd, OpensBefore}
+use Rattle.rep_ledger.proofs.DiskSteps.{Changes-weaker, IsAtRest-untouched, IsRead-untouched}
+use Rattle.rep_ledger.proofs.LeavingLemmas.{ChangesAtEnd-around, OpensBefore-gate}
 use Rattle.rep_ledger.proofs.LedgerLemmas.{frames_of-push}
 use Rattle.rep_ledger.proofs.SafetyLemmas.{ledger_around}
 use Rattle.rep_site.specs.declared.site.Site.{Site}
@@ -27,7 +30,7 @@ use Rattle.rep_store.specs.Device.{Device, PutsFrame, Reserves, StopsAtFrame}
 use Rattle.rep_store.specs.Fields.{IsWhole, state_of}
 use Rattle.rep_store.specs.State.{CountsStop, IsKept, IsOpenAfter, IsSettledOn, IsSound}
 use Rattle.rep_store.specs.Steps.{IsKeptAsWas, IsLeftAt}
-use Rattle.rep_store.proofs.Contents.{Changes-weaker, after_change, told_before, told_as, ledger_with, left_ledger, within_ledger}
+use Rattle.rep_store.proofs.Contents.{after_change, told_before, told_as, where_told, ledger_with, left_ledger, within_ledger}
 
 -- a store that goes on has a disk that keeps its history, and a crash leaves nothing else
 pub settled_of : {D : Type 0} (shown : D → Shown) (core : Kept) (device : Device D) (site : Site) → IsWhole shown core device site → device.stopped ≡ None → IsSettledOn core.entries (shown device.disk)
@@ -38,6 +41,8 @@ pub IsSound-whole : {D C : Type 0} (shown : D → Shown) (core : Kept) (device :
 IsSound-whole shown core device clock site reading whole = record {
   founded = whole.founded;
   site = whole.is_site;
+  of_site = whole.of_site;
+  offset = refl;
   numbers = whole.numbers;
   limit = whole.limit;
   disk = whole.disk;
@@ -56,6 +61,7 @@ module _ {D : Type 0} (shown : D → Shown) (core core' : Kept) (device device' 
         founded = subst IsFounded (sym same_entries) whole.founded;
         numbers = omega (arith, ap length same_entries, whole.numbers);
         limit = (omega (arith, whole.limit.0), omega (arith, whole.limit.1));
+        of_site = limit ∙ whole.of_site;
         is_site = whole.is_site;
         disk = subst (λ o. IsKept o core'.entries (shown device'.disk)) (sym reserved.running)
             (subst (λ h. IsSettledOn h (shown device'.disk)) (sym same_entries) (record {
@@ -118,6 +124,7 @@ module _ {D : Type 0} (shown : D → Shown) (core core' : Kept) (device device' 
     founded = subst IsFounded (sym entries) (IsFounded-push core.entries (entry_of q now) whole.founded entry_fits);
     numbers = omega (arith, ap length entries, length-append core.entries (entry_of q now ∷ []), fresh.2, whole.limit.1);
     limit = limit_kept;
+    of_site = limit ∙ whole.of_site;
     is_site = whole.is_site;
     disk = subst (λ o. IsKept o core'.entries (shown device'.disk)) (sym put.running)
         (subst (λ h. IsSettledOn h (shown device'.disk)) (sym entries) (record {
@@ -149,6 +156,29 @@ module _ {D : Type 0} (shown : D → Shown) (core core' : Kept) (device device' 
       left_ledger core.entries (entry_of q now) whole.founded entry_fits stops.stops.fails.failed device.frames bytes (whole.frames running (told_as _ was told)) left)
       stops.stops.fails.contents
 
+  -- where a device call failed, what was changed lies behind the history
+  pub around_stopped : (stops : StopsAtFrame shown (next_frame core.entries (entry_of q now)) device device') → Changes (ChangesAtEnd stops.stops.fails.failed core.entries (recorded_after core.entries q now)) (shown device.disk).contents (shown device'.disk).contents
+  around_stopped stops =
+      let failed = stops.stops.fails.failed in
+      let frame = next_frame core.entries (entry_of q now) in
+      Changes-weaker (shown device.disk).contents (shown device'.disk).contents
+      (λ was bytes. journal.IsLeftAround failed device.frames frame was bytes)
+      (ChangesAtEnd failed core.entries (recorded_after core.entries q now))
+      (λ was bytes told left.
+      ChangesAtEnd-around failed core.entries (entry_of q now) was bytes
+      (subst (λ (fs : List Framed). journal.IsLeftAround failed fs frame was bytes) (whole.frames running (told_as _ was told)) left))
+      stops.stops.fails.around
+
+  -- while its gate is pending, that gate alone is
+  pub opens_put : (until : ℕ) → OpensGate device.frames (next_frame core.entries (entry_of q now)) (shown device.disk) (shown device'.disk) until → OpensBefore core.entries (recorded_after core.entries q now) (shown device.disk) (shown device'.disk) until
+  opens_put until opens =
+      let frame = next_frame core.entries (entry_of q now) in
+      let settled = settled_of shown core device site whole running in
+      OpensBefore-gate core.entries (entry_of q now) (shown device.disk) (shown device'.disk) until settled.holds entry_fits
+      (where_told (shown device.disk).contents
+      (λ (was : List ℕ). (shown device'.disk).moment < last_moment → (m : ℕ) → (shown device.disk).moment + 4 < m → m ≤ until → m ≤ (shown device'.disk).moment → IsOpenAtGate (frames_of core.entries) frame was (shown device'.disk) m)
+      (λ told. subst (λ (fs : List Framed). OpensGate fs frame (shown device.disk) (shown device'.disk) until) (whole.frames running told) opens))
+
   later_stopped : (stops : StopsAtFrame shown (next_frame core.entries (entry_of q now)) device device') → (shown device.disk).moment ≤ (shown device'.disk).moment
   later_stopped stops = let calls = stops.stops.fails.calls in omega arith
 
@@ -175,6 +205,7 @@ module _ {D : Type 0} (shown : D → Shown) (core core' : Kept) (device device' 
     founded = subst IsFounded (sym entries) whole.founded;
     numbers = omega (arith, ap length entries, whole.numbers);
     limit = limit_kept;
+    of_site = limit ∙ whole.of_site;
     is_site = whole.is_site;
     disk = subst (λ o. IsKept o core'.entries (shown device'.disk)) (sym stops.stopped)
         (subst (λ h. IsOpenAfter h (shown device'.disk)) (sym entries) (open_after stops));

@@ -1,6 +1,6 @@
 -- What a request does to a store, from what it does to the parts.
-use Rattle.std.proofs.Common.{◌≡◌, ℕ, true, false, ◌*◌, ◌<◌, ◌≤◌, inl, List, [], length, Option, Some, None, Result, Ok, Err, refl, sym, ap, subst, ◌∙◌, arith}
-use Rattle.std.specs.Prelude.{All, IfSome, IsSome, OnErr, OnOk, is_err}
+use Rattle.std.proofs.Common.{◌≡◌, ℕ, true, false, ◌+◌, ◌*◌, ◌<◌, ◌≤◌, inl, List, [], length, Option, Some, None, Result, Ok, Err, refl, sym, ap, subst, ◌∙◌, arith}
+use Rattle.std.specs.Prelude.{◌↔◌, All, IfSome, IsSome, OnErr, OnOk, is_err}
 use Rattle.std.proofs.lemmas.List.Elements.{All-cons, All-nil, All-weaker}
 use Rattle.rep_fields.specs.Moment.{Moment, IsMoment, moment_at}
 use Rattle.rep_io.specs.Causes.{Rose}
@@ -21,9 +21,10 @@ use Rattle.rep_core.specs.declared.verdict.Verdict.TheVariants.{Fresh}
 use Rattle.rep_core.proofs.Splits.{split_in}
 use Rattle.rep_journal.specs.Format.{IsJournalOf}
 use Rattle.rep_journal.specs.State.{IsRead, Leaves}
-use Rattle.rep_journal.specs.Recovery.{PutMoments, Puts}
+use Rattle.rep_journal.specs.Recovery.{OpensGate, PutMoments, Puts}
 use Rattle.rep_ledger.specs.Ledger.{IsLedgerOf, frames_of, next_frame}
 use Rattle.rep_ledger.specs.Safety.{IsImageOf, IsSafe, IsSure, Receipted, Secures, receipted_at}
+use Rattle.rep_ledger.specs.Leaving.{ChangesAtEnd, IsOpenBefore, OpensBefore}
 use Rattle.rep_ledger.proofs.DiskSteps.{IsRead-untouched}
 use Rattle.rep_ledger.proofs.SafetyLemmas.{Secures-read, Secures-put, Secures-untouched, sure_by_length}
 use Rattle.rep_site.specs.declared.site.Site.{Site}
@@ -32,7 +33,7 @@ use Rattle.rep_store.specs.Fields.{IsWhole, state_of}
 use Rattle.rep_store.specs.State.{IsSettledOn}
 use Rattle.rep_store.specs.Steps.{IsLeftAt, Records, StaysClosed, Stops, TakesReading, Ticks, recorded_at}
 use Rattle.rep_store.proofs.Contents.{told_after}
-use Rattle.rep_store.proofs.Parts.{IsWhole-put, IsWhole-stopped, contents_put, contents_stopped, entry_fits, settled_of, text_put}
+use Rattle.rep_store.proofs.Parts.{IsWhole-put, IsWhole-stopped, around_stopped, contents_put, contents_stopped, entry_fits, opens_put, settled_of, text_put}
 
 -- what a result that is no error, or is one, brings
 pub of_ok : {T E : Type 0} (result : Result T E) (P : Type 0) → is_err result ≡ false → OnOk result P → P
@@ -46,11 +47,11 @@ of_err (Err e) P err p = p
 -- each image of a settled disk keeps its history, where the contents are told
 pub settled_images : (h : List Entry) (s : Shown) → IsSettledOn h s → IsSome s.contents → s.moment < last_moment → (image : List ℕ) → s.may_leave s.moment image → IsImageOf image h
 settled_images h s settled told below image leaves =
-    told_image s.contents (settled.rest below image leaves) settled.holds told
+    told_image s.contents (settled.rest below image) settled.holds told
   where
-    told_image : (o : Option (List ℕ)) → IfSome o (λ bytes. image ≡ bytes) → IfSome o (λ bytes. IsLedgerOf bytes h) → IsSome o → IsImageOf image h
+    told_image : (o : Option (List ℕ)) → IfSome o (λ bytes. s.may_leave s.moment image ↔ image ≡ bytes) → IfSome o (λ bytes. IsLedgerOf bytes h) → IsSome o → IsImageOf image h
     told_image None same holds told = absurd cc
-    told_image (Some bytes) same holds told = inl (subst (λ x. IsLedgerOf x h) (sym same) holds)
+    told_image (Some bytes) same holds told = inl (subst (λ x. IsLedgerOf x h) (sym (same.0 leaves)) holds)
 
 -- a reply's receipt is of an entry of the history
 pub receipts_within : (limit : ℕ) (h : List Entry) (q : Request) (reply : Reply) (moment : ℕ) → IsReply limit h q reply → All (λ r. (r.moment ≡ moment) × (r.nsr ≤ length h)) (receipted_at moment reply.answer)
@@ -77,6 +78,12 @@ pub IsSafe-read : (h : List Entry) (receipts : List Receipted) (a b : Shown) →
 IsSafe-read h receipts a b settled read given told below =
     Secures-read h receipts a b (settled_images h a settled told (omega (arith, read.later))) read below given
 
+-- the same of a disk that showed the same before
+OpensBefore-along : (without whole : List Entry) (a b c : Shown) (until : ℕ) → b.contents ≡ a.contents → b.moment ≡ a.moment → OpensBefore without whole b c until → OpensBefore without whole a c until
+OpensBefore-along without whole a b c until contents moment opens =
+    subst (λ o. IfSome o (λ was. c.moment < last_moment → (m : ℕ) → a.moment + 4 < m → m ≤ until → m ≤ c.moment → IsOpenBefore without whole was c m)) contents
+    (subst (λ n. IfSome b.contents (λ was. c.moment < last_moment → (m : ℕ) → n + 4 < m → m ≤ until → m ≤ c.moment → IsOpenBefore without whole was c m)) moment opens)
+
 module _ {D C : Type 0} (shown : D → Shown) (readings_of : C → Option (List ℕ)) (faults_of : C → ℕ) (core core' core'' : Kept) (device device' device'' : Device D) (clock clock' : C) (site : Site) (reading : Option ℕ) (q : Request) (minute : ℕ) (now : Moment) (whole : IsWhole shown core' device' site) (same : core'.entries ≡ core.entries) (limit' : core'.limit ≡ core.limit) (reserved : Reserves shown device device') (ticks : Ticks readings_of faults_of minute clock clock') (at : now ≡ moment_at minute site.offset) (asked : IsRequest q) (stamp : IsMoment now) (fresh : IsVerdict core.limit core.entries q Fresh) (limit'' : core''.limit ≡ core'.limit) where
   fresh' : IsVerdict core'.limit core'.entries q Fresh
   fresh' = subst (λ n. IsVerdict n core'.entries q Fresh) (sym limit') (subst (λ h. IsVerdict core.limit h q Fresh) (sym same) fresh)
@@ -97,6 +104,13 @@ module _ {D C : Type 0} (shown : D → Shown) (readings_of : C → Option (List 
         founded = subst IsFounded same whole.founded;
         journal = subst (λ fs. IsJournalOf image fs) (whole.frames reserved.running told' ∙ ap frames_of same) closed;
       }
+
+  -- while its gate is pending, that gate alone is
+  opens_from : (until : ℕ) → OpensGate device'.frames (next_frame core'.entries (entry_of q now)) (shown device'.disk) (shown device''.disk) until → OpensBefore core.entries (recorded_after core'.entries q now) (shown device.disk) (shown device''.disk) until
+  opens_from until opens =
+      OpensBefore-along core.entries (recorded_after core'.entries q now) (shown device.disk) (shown device'.disk) (shown device''.disk) until reserved.disk.contents reserved.disk.moment
+      (subst (λ h. OpensBefore h (recorded_after core'.entries q now) (shown device'.disk) (shown device''.disk) until) same
+      (opens_put shown core' core'' device' device'' site q now whole reserved.running asked stamp fresh' limit'' until opens))
 
   module _ (put : PutsFrame shown (next_frame core'.entries (entry_of q now)) device' device'') (entries : core''.entries ≡ recorded_after core'.entries q now) where
     pub whole_put : IsWhole shown core'' device'' site
@@ -125,12 +139,15 @@ module _ {D C : Type 0} (shown : D → Shown) (readings_of : C → Option (List 
           text = text_recorded;
           rest = put.appends.rest;
           closed = StaysClosed-puts put.crash;
+          at_gate = subst (λ h. OpensBefore core.entries h (shown device.disk) (shown device''.disk) ((shown device.disk).moment + 7)) (sym entries)
+              (subst (λ n. OpensBefore core.entries (recorded_after core'.entries q now) (shown device.disk) (shown device''.disk) (n + 7)) reserved.disk.moment
+              (opens_from ((shown device'.disk).moment + 7) put.at_gate));
           calls = subst (λ m. AdvancesBy (2 * 4) m (shown device''.disk).moment) reserved.disk.moment put.appends.calls;
           own = (
             λ own. put.appends.own.0 ((IsRead-untouched (shown device.disk) (shown device'.disk) reserved.disk).own.0 own),
             λ own. (IsRead-untouched (shown device.disk) (shown device'.disk) reserved.disk).own.1 (put.appends.own.1 own),
           );
-          disk_faults = omega (arith, put.appends.disk_faults, reserved.disk.faults);
+          no_fault = put.appends.no_fault ∙ reserved.disk.faults;
         }
 
   -- a crash leaves the history before, or that one
@@ -179,7 +196,14 @@ module _ {D C : Type 0} (shown : D → Shown) (readings_of : C → Option (List 
           contents = subst (λ o. Changes (λ _ bytes. IsLeftAt stops.stops.fails.failed core.entries (recorded_at core.entries q site.offset (Some minute)) bytes) o (shown device''.disk).contents) reserved.disk.contents
               (subst (λ h. Changes (λ _ bytes. IsLeftAt stops.stops.fails.failed core.entries h bytes) (shown device'.disk).contents (shown device''.disk).contents) with_entry
               (subst (λ h. Changes (λ _ bytes. IsLeftAt stops.stops.fails.failed h (recorded_after core'.entries q now) bytes) (shown device'.disk).contents (shown device''.disk).contents) same contents));
+          around =
+              let around = around_stopped shown core' core'' device' device'' site q now whole reserved.running asked stamp fresh' limit'' stops in
+              subst (λ o. Changes (ChangesAtEnd stops.stops.fails.failed core.entries (recorded_at core.entries q site.offset (Some minute))) o (shown device''.disk).contents) reserved.disk.contents
+              (subst (λ h. Changes (ChangesAtEnd stops.stops.fails.failed core.entries h) (shown device'.disk).contents (shown device''.disk).contents) with_entry
+              (subst (λ h. Changes (ChangesAtEnd stops.stops.fails.failed h (recorded_after core'.entries q now)) (shown device'.disk).contents (shown device''.disk).contents) same around));
           closed = StaysClosed-puts stops.crash;
+          at_gate = subst (λ h. OpensBefore core.entries h (shown device.disk) (shown device''.disk) (shown device''.disk).moment) with_entry
+              (opens_from (shown device''.disk).moment stops.at_gate);
           own = (
             λ own. stops.stops.own.0 ((IsRead-untouched (shown device.disk) (shown device'.disk) reserved.disk).own.0 own),
             λ own. (IsRead-untouched (shown device.disk) (shown device'.disk) reserved.disk).own.1 (stops.stops.own.1 own),

@@ -1,9 +1,9 @@
 -- The journal of a store, as contracts see it: this project's own.
-use Rattle.std.specs.Prelude.{◌≡◌, ℕ, List, Option, Some, None}
+use Rattle.std.specs.Prelude.{◌≡◌, ℕ, ◌+◌, List, Option, Some, None}
 use Rattle.rep_disk.specs.Disk.{Shown, IsUntouched}
 use Rattle.rep_journal.specs.Format.{Framed}
 use Rattle.rep_journal.specs.State.{State, Appends, StopsAt}
-use Rattle.rep_journal.specs.Recovery.{Puts}
+use Rattle.rep_journal.specs.Recovery.{OpensGate, Puts}
 
 pub record Device (D : Type 0) : Type 0 where
   pub disk : D
@@ -42,6 +42,7 @@ pub record PutsFrame {D : Type 0} (shown : D → Shown) (frame : Framed) (old ne
   pub running : new.stopped ≡ None
   pub appends : Appends shown frame (journal_of old) (journal_of new)
   pub crash : Puts old.frames frame (shown old.disk) (shown new.disk)
+  pub at_gate : OpensGate old.frames frame (shown old.disk) (shown new.disk) ((shown old.disk).moment + 7)
 
 -- the journal has stopped
 pub record StopsAtFrame {D : Type 0} (shown : D → Shown) (frame : Framed) (old new : Device D) : Type 0 where
@@ -49,3 +50,4 @@ pub record StopsAtFrame {D : Type 0} (shown : D → Shown) (frame : Framed) (old
   pub count : ℕ
   pub stops : StopsAt shown frame (journal_of old) new.disk new.faults count
   pub crash : Puts old.frames frame (shown old.disk) (shown new.disk)
+  pub at_gate : OpensGate old.frames frame (shown old.disk) (shown new.disk) (shown new.disk).moment

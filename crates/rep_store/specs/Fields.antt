@@ -29,6 +29,7 @@ pub record IsWhole {D : Type 0} (shown : D → Shown) (core : Kept) (device : De
   pub founded : IsFounded core.entries
   pub numbers : length core.entries ≤ last_nsr
   pub limit : IsLimit core.limit
+  pub of_site : core.limit ≡ site.last_nsr
   pub is_site : IsSite site
   pub disk : IsKept device.stopped core.entries (shown device.disk)
   pub count : CountsStop device.stopped device.faults

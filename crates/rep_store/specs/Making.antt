@@ -5,7 +5,7 @@ use Rattle.rep_disk.specs.Disk.{Shown, Changes, IsAtRest, IsOwnImage}
 use Rattle.rep_wire.specs.declared.request.Request.{Request}
 use Rattle.rep_site.specs.declared.site.Site.{Site}
 use Rattle.rep_journal.specs.Format.{IsBlank}
-use Rattle.rep_journal.specs.State.{IsKeptBy, IsRead, Leaves}
+use Rattle.rep_journal.specs.State.{IsKeptBy, IsRead, Leaves, MakesCalls}
 use Rattle.rep_journal.specs.Recovery.{RestsFrom}
 use Rattle.rep_journal.specs.declared.error.WhyNot.TheVariants.{DeviceFault}
 use Rattle.rep_ledger.specs.Ledger.{IsLedgerOf, frames_of}
@@ -14,6 +14,7 @@ use Rattle.rep_store.specs.Founding.{founding_request}
 use Rattle.rep_store.specs.State.{State, Holds}
 use Rattle.rep_store.specs.Steps.{Ticks, recorded_at}
 use Rattle.rep_store.specs.declared.error.NoStore.{NoStore}
+use Rattle.rep_store.specs.declared.error.StoreWhy.{StoreWhy}
 use Rattle.rep_store.specs.declared.error.StoreWhy.TheVariants.{ClockFault, Journal}
 
 -- the store is the site's, with its limit and its offset, and no call was made of it
@@ -35,7 +36,7 @@ pub record Founds {D C : Type 0} (shown : D → Shown) (readings_of : C → Opti
   pub rest : IsAtRest (shown s.disk)
   pub later : (shown disk).moment ≤ (shown s.disk).moment
   pub own : IsOwnImage (shown disk) ↔ IsOwnImage (shown s.disk)
-  pub disk_faults : (shown disk).faults ≤ (shown s.disk).faults
+  pub no_fault : (shown s.disk).faults ≡ (shown disk).faults
 
 -- a new store of the site, of which the request's record was made the first
 pub record FoundsStore {D C : Type 0} (shown : D → Shown) (readings_of : C → Option (List ℕ)) (faults_of : C → ℕ) (site : Site) (q : Request) (disk : D) (clock : C) (s : State D C) : Type 0 where
@@ -78,6 +79,11 @@ FailsToCreate shown readings_of faults_of site disk clock disk' clock' =
     ((clock' ≡ clock) × IsRead (shown disk) (shown disk') × Rose (shown disk).faults (shown disk').faults)
     ⊎ FailsToFound shown readings_of faults_of (founding_request site) site.offset disk clock disk' clock'
 
+-- Where no store was found: the sync, which comes first, failed and was the only device call, or from that sync on a crash
+-- leaves the contents alone.
+abbrev pub RestsUnlessFailed : StoreWhy → Shown → Shown → Type 0
+RestsUnlessFailed why old new = ((why ≡ Journal DeviceFault) × MakesCalls 1 old new) ⊎ RestsFrom (old.moment + 2) new
+
 -- a store of the history that the disk keeps
 pub record Reopens {D C : Type 0} (shown : D → Shown) (site : Site) (disk : D) (clock : C) (s : State D C) : Type 0 where
   pub is_new : IsNew site s
@@ -85,3 +91,4 @@ pub record Reopens {D C : Type 0} (shown : D → Shown) (site : Site) (disk : D)
   pub same_clock : s.clock ≡ clock
   pub kept : IsKeptBy (shown disk) (shown s.disk)
   pub rest : RestsFrom ((shown disk).moment + 2) (shown s.disk)
+  pub no_fault : (shown s.disk).faults ≡ (shown disk).faults

@@ -61,6 +61,9 @@ CountsStop (Some count) faults = (count ≡ faults) × (1 ≤ count)
 pub record IsSound {D C : Type 0} (shown : D → Shown) (s : State D C) : Type 0 where
   pub founded : IsFounded s.history
   pub site : IsSite s.site
+  -- limit and offset are the site's
+  pub of_site : s.limit ≡ s.site.last_nsr
+  pub offset : s.offset ≡ s.site.offset
   pub numbers : length s.history ≤ last_nsr
   pub limit : IsLimit s.limit
   pub disk : IsKept s.stopped s.history (shown s.disk)

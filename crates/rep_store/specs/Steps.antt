@@ -15,6 +15,7 @@ use Rattle.rep_core.specs.declared.verdict.Verdict.TheVariants.{Fresh}
 use Rattle.rep_journal.specs.State.{IsRead, Leaves, MakesCalls}
 use Rattle.rep_ledger.specs.Ledger.{IsLedgerOf, frames_of}
 use Rattle.rep_ledger.specs.Safety.{Receipted, receipted_at}
+use Rattle.rep_ledger.specs.Leaving.{ChangesAtEnd, OpensBefore}
 use Rattle.rep_store.specs.State.{State}
 use Rattle.rep_store.specs.declared.error.Stop.{Stop}
 use Rattle.rep_store.specs.declared.error.Stop.TheVariants.{Stopped, DeviceFault, ClockFault, OutOfMemory}
@@ -28,7 +29,7 @@ recorded_at h q offset (Some minute) = recorded_after h q (moment_at minute offs
 pub record Ticks {C : Type 0} (readings_of : C → Option (List ℕ)) (faults_of : C → ℕ) (minute : ℕ) (old new : C) : Type 0 where
   pub in_range : IsReading minute
   pub given : readings_of new ≡ append_known (readings_of old) (minute ∷ [])
-  pub later : faults_of old ≤ faults_of new
+  pub no_fault : faults_of new ≡ faults_of old
 
 -- site, history, limit, offset and counts are as before, and the disk was read at most
 pub record IsKeptAsWas {D C : Type 0} (shown : D → Shown) (old new : State D C) : Type 0 where
@@ -43,12 +44,14 @@ pub record IsKeptAsWas {D C : Type 0} (shown : D → Shown) (old new : State D C
 -- nothing changes, and the clock isn't looked at
 pub record LeavesAll {D C : Type 0} (shown : D → Shown) (old new : State D C) : Type 0 where
   pub kept : IsKeptAsWas shown old new
+  pub no_fault : (shown new.disk).faults ≡ (shown old.disk).faults
   pub clock : new.clock ≡ old.clock
   pub reading : new.reading ≡ None
 
 -- the clock failed, and nothing else changes
 pub record MissesTime {D C : Type 0} (shown : D → Shown) (readings_of : C → Option (List ℕ)) (faults_of : C → ℕ) (old new : State D C) : Type 0 where
   pub kept : IsKeptAsWas shown old new
+  pub no_disk_fault : (shown new.disk).faults ≡ (shown old.disk).faults
   pub readings : readings_of new.clock ≡ readings_of old.clock
   pub cause : Rose (faults_of old.clock) (faults_of new.clock)
   pub reading : new.reading ≡ None
@@ -78,9 +81,10 @@ pub record Records {D C : Type 0} (shown : D → Shown) (readings_of : C → Opt
   pub text : Leaves (frames_of new.history) (shown old.disk).contents (shown new.disk).contents
   pub rest : IsAtRest (shown new.disk)
   pub closed : StaysClosed old.history (shown old.disk) (shown new.disk)
+  pub at_gate : OpensBefore old.history new.history (shown old.disk) (shown new.disk) ((shown old.disk).moment + 7)
   pub calls : MakesCalls 4 (shown old.disk) (shown new.disk)
   pub own : IsOwnImage (shown old.disk) ↔ IsOwnImage (shown new.disk)
-  pub disk_faults : (shown old.disk).faults ≤ (shown new.disk).faults
+  pub no_fault : (shown new.disk).faults ≡ (shown old.disk).faults
 
 -- What is left of the history where the device call of this number failed while an entry was put: the first two write
 -- the frame and make sure of it, the others open its gate and make sure of that.
@@ -105,7 +109,10 @@ pub record Stops {D C : Type 0} (shown : D → Shown) (readings_of : C → Optio
   pub contents : Changes
       (λ _ bytes. IsLeftAt failed old.history (recorded_at old.history q old.offset new.reading) bytes)
       (shown old.disk).contents (shown new.disk).contents
+  pub around : Changes (ChangesAtEnd failed old.history (recorded_at old.history q old.offset new.reading))
+      (shown old.disk).contents (shown new.disk).contents
   pub closed : StaysClosed old.history (shown old.disk) (shown new.disk)
+  pub at_gate : OpensBefore old.history (recorded_at old.history q old.offset new.reading) (shown old.disk) (shown new.disk) (shown new.disk).moment
   pub own : IsOwnImage (shown old.disk) ↔ IsOwnImage (shown new.disk)
 
 -- The request was served: recorded where it was to be recorded, and else nothing changed. The reply is that over the

@@ -41,8 +41,8 @@ impl<D: Disk, C: Clock> Store<D, C> {
     /// # Errors
     ///
     /// `Foreign` exactly where the contents aren't blank and lack a journal's magic, `Present` exactly where they aren't
-    /// blank and have it. `DeviceFault` only where the disk failed in this call: it is as it was, is still blank, or
-    /// keeps the site's record. `ClockFault` only where the clock failed in this call. `OutOfMemory`. But for
+    /// blank and have it. `DeviceFault` exactly where the disk failed in this call: it is as it was, is still blank, or
+    /// keeps the site's record. `ClockFault` exactly where the clock failed in this call. `OutOfMemory`. But for
     /// `DeviceFault` the disk is as it was.
     pub fn create(
         alloc: Global,
@@ -58,6 +58,9 @@ impl<D: Disk, C: Clock> Store<D, C> {
             → FailsToCreate D.shown C.readings C.faults site.now disk clock e.disk e.clock) }
         ensures clock_fault { IfErr result (λ e. e.why ≡ StoreWhy.ClockFault
             → Rose (C.faults clock) (C.faults e.clock) × IfSome (D.shown disk).contents IsBlank) }
+        ensures no_device_fault { IfErr result (λ e. e.why ≢ StoreWhy.Journal WhyNot.DeviceFault
+            → (D.shown e.disk).faults ≡ (D.shown disk).faults) }
+        ensures no_clock_fault { IfErr result (λ e. e.why ≢ StoreWhy.ClockFault → C.faults e.clock ≡ C.faults clock) }
         ensures kept { IfErr result (λ e. e.why ≢ StoreWhy.Journal WhyNot.DeviceFault
             → IsRead (D.shown disk) (D.shown e.disk) × (C.readings e.clock ≡ C.readings clock)) }
         ensures looked_at_first { IfErr result (λ e. e.why ≢ StoreWhy.ClockFault

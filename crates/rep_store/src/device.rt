@@ -36,7 +36,7 @@ impl<D: Disk> Model for Device<D> {
 }
 
 impl<D: Disk> Device<D> {
-    ghost use Rattle.std.specs.Prelude.{◌≡◌, ◌≤◌, IsSome, OnOk, OnErr, Some, None, Err};
+    ghost use Rattle.std.specs.Prelude.{◌≡◌, ◌≢◌, ◌≤◌, IsSome, OnOk, OnErr, Some, None, Err};
     ghost use Rattle.rep_io.specs.Causes.{Rose};
     ghost use Rattle.afd_records.specs.File.{HasHeadText};
     ghost use Rattle.afd_extract.specs.Extract.{IsRangeIn, WritesExtract, failed_by_device};
@@ -116,8 +116,11 @@ impl<D: Disk> Device<D> {
         ensures journal { IsSame D.shown (failed_by_device result) (journal_of self.old) (journal_of self.new) }
         ensures device_fault { result ≡ Err WriteFail.DeviceFault
             → Rose (D.shown self.old.disk).faults (D.shown self.new.disk).faults }
+        ensures no_device_fault { result ≢ Err WriteFail.DeviceFault
+            → (D.shown self.new.disk).faults ≡ (D.shown self.old.disk).faults }
         ensures sink_later { K.faults sink.old ≤ K.faults sink.new }
         ensures sink_fault { result ≡ Err WriteFail.SinkFault → Rose (K.faults sink.old) (K.faults sink.new) }
+        ensures no_sink_fault { result ≢ Err WriteFail.SinkFault → K.faults sink.new ≡ K.faults sink.old }
     {
         match &mut self.held {
             Some(Held::Running(journal)) => write_afd(journal, range, head, sink),

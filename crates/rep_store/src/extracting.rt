@@ -1,5 +1,5 @@
 //! The AFD of a period, out of the history.
-ghost use Rattle.std.specs.Prelude.{◌≡◌, ◌*◌, ◌≤◌, ℕ, List, IsSome, Some, Err, length};
+ghost use Rattle.std.specs.Prelude.{◌≡◌, ◌≢◌, ◌*◌, ◌≤◌, ℕ, List, IsSome, Some, Err, length};
 ghost use Rattle.std.specs.List.{flat_map};
 ghost use Rattle.rep_fields.specs.Moment.{moment_at};
 ghost use Rattle.rep_io.specs.Causes.{HasCause, Rose};
@@ -47,7 +47,7 @@ pub struct Lead {
 }
 
 impl<D: Disk, C: Clock> Store<D, C> {
-    ghost use Rattle.std.specs.Prelude.{◌≡◌, ◌↔◌, ◌≤◌, ℕ, List, [], length, IfOk, None, Some};
+    ghost use Rattle.std.specs.Prelude.{◌≡◌, ◌≢◌, ◌↔◌, ◌≤◌, ℕ, List, [], length, IfOk, None, Some, Err};
     ghost use Rattle.rep_io.specs.Causes.{Rose};
     ghost use Rattle.rep_core.specs.History.{days_of};
     ghost use Rattle.rep_ledger.specs.Safety.{IsSafe};
@@ -78,7 +78,7 @@ impl<D: Disk, C: Clock> Store<D, C> {
     /// # Errors
     ///
     /// `Stopped` exactly where the store stopped before, with the count that it keeps. `ClockFault`, `SinkFault` and
-    /// `DeviceFault` only where the clock, the sink or the disk failed in this call; a front of what was due stands then.
+    /// `DeviceFault` exactly where the clock, the sink or the disk failed in this call; a front of what was due stands then.
     pub fn extract<K: Sink>(
         &mut self,
         lead: Option<Lead>,
@@ -100,6 +100,11 @@ impl<D: Disk, C: Clock> Store<D, C> {
             → Extracts D.shown C.readings C.faults lead from to self.old self.new (K.written sink.old) (K.written sink.new) result
             × Rose (D.shown self.old.disk).faults (D.shown self.new.disk).faults }
         ensures sink_later { K.faults sink.old ≤ K.faults sink.new }
+        ensures no_sink_fault { result ≢ Err ExtractFail.SinkFault → K.faults sink.new ≡ K.faults sink.old }
+        ensures no_device_fault { result ≢ Err ExtractFail.DeviceFault
+            → (D.shown self.new.disk).faults ≡ (D.shown self.old.disk).faults }
+        ensures no_clock_fault { result ≢ Err ExtractFail.ClockFault
+            → C.faults self.new.clock ≡ C.faults self.old.clock }
         ensures safe { self.old.stopped ≡ None → IsSafe (D.shown self.old.disk).moment self.old.history self.old.history []
             (D.shown self.old.disk) (D.shown self.new.disk) }
     {
@@ -174,8 +179,11 @@ fn put_extract<D: Disk, K: Sink>(
     ensures no_clock { ¬ (result ≡ Err ExtractFail.ClockFault) }
     ensures device_fault { result ≡ Err ExtractFail.DeviceFault
         → Rose (D.shown device.old.disk).faults (D.shown device.new.disk).faults }
+    ensures no_device_fault { result ≢ Err ExtractFail.DeviceFault
+        → (D.shown device.new.disk).faults ≡ (D.shown device.old.disk).faults }
     ensures sink_later { K.faults sink.old ≤ K.faults sink.new }
     ensures sink_fault { result ≡ Err ExtractFail.SinkFault → Rose (K.faults sink.old) (K.faults sink.new) }
+    ensures no_sink_fault { result ≢ Err ExtractFail.SinkFault → K.faults sink.new ≡ K.faults sink.old }
 {
     let range = period(days.list(), head.first, head.last);
     if put_lead(core, days, head, lead, sink).is_err() {

@@ -15,7 +15,7 @@ pub struct Filed {
 }
 
 impl<D: Disk, C: Clock> Store<D, C> {
-    ghost use Rattle.std.specs.Prelude.{◌≡◌, ◌↔◌, ◌⊎◌, ◌<◌, ℕ, length, IfOk, None, Some};
+    ghost use Rattle.std.specs.Prelude.{◌≡◌, ◌≢◌, ◌↔◌, ◌⊎◌, ◌<◌, ℕ, length, IfOk, None, Some, Err};
     ghost use Rattle.rep_io.specs.Causes.{Rose};
     ghost use Rattle.rep_store.specs.Filing.{IsFiled, IsReadBy, failed_by_disk};
 
@@ -24,7 +24,7 @@ impl<D: Disk, C: Clock> Store<D, C> {
     /// # Errors
     ///
     /// `Stopped` exactly where the store stopped before, with the count that it keeps. `NoSuchNsr` exactly where it goes on
-    /// and the number is 0 or above the count of entries. `DeviceFault` only where the disk failed in this call; the store
+    /// and the number is 0 or above the count of entries. `DeviceFault` exactly where the disk failed in this call; the store
     /// goes on then.
     pub fn slip(&mut self, nsr: u32) -> Result<Filed, SlipFail>
         ensures found { IfOk result (IsFiled self.old.history nsr) }
@@ -33,6 +33,8 @@ impl<D: Disk, C: Clock> Store<D, C> {
         ensures stopped { (count : ℕ) → (result ≡ Err (SlipFail.Stopped count)) ↔ (self.old.stopped ≡ Some count) }
         ensures device_fault { result ≡ Err SlipFail.DeviceFault
             → Rose (D.shown self.old.disk).faults (D.shown self.new.disk).faults }
+        ensures no_fault { result ≢ Err SlipFail.DeviceFault
+            → (D.shown self.new.disk).faults ≡ (D.shown self.old.disk).faults }
         ensures kept { IsReadBy D.shown (failed_by_disk result) self.old self.new }
         ensures clock { self.new.clock ≡ self.old.clock }
         ensures reading { self.new.reading ≡ self.old.reading }

@@ -16,13 +16,14 @@ use std::alloc::Global;
 impl<D: Disk, C: Clock> Store<D, C> {
     ghost use Rattle.std.specs.Prelude.{◌≡◌, ◌≢◌, ◌⊎◌, ◌+◌, ℕ, [], List, IfOk, IfErr, IfSome, IsOkAnd};
     ghost use Rattle.rep_io.specs.Causes.{Rose};
+    ghost use Rattle.rep_disk.specs.Disk.{IsAtRest};
     ghost use Rattle.rep_wire.specs.declared.request.Entry.{Entry};
     ghost use Rattle.rep_site.specs.Site.{IsSite};
     ghost use Rattle.rep_journal.specs.Format.{IsBlank, IsForeign};
     ghost use Rattle.rep_journal.specs.State.{IsKeptBy};
     ghost use Rattle.rep_ledger.specs.Ledger.{IsLedgerOf, IsDamagedAt};
     ghost use Rattle.rep_ledger.specs.Safety.{IsSafe};
-    ghost use Rattle.rep_store.specs.Making.{Reopens};
+    ghost use Rattle.rep_store.specs.Making.{Reopens, RestsUnlessFailed};
     ghost use Rattle.rep_store.specs.Outcome.{IsCutShort, Refuses};
 
     /// Finds the journal that stands on a disk, and its history. It makes sure of the contents first, and then reads
@@ -33,7 +34,8 @@ impl<D: Disk, C: Clock> Store<D, C> {
     /// `Blank` exactly where the contents are blank, `Foreign` exactly where they aren't blank and lack a journal's
     /// magic. `Damaged` exactly where they aren't blank and an open gate isn't followed by a whole frame and a gate
     /// byte, or where all frames are whole and one isn't that of an entry that can stand there; it names the place of
-    /// the first such gate. `DeviceFault` only where the disk failed in this call. `OutOfMemory`.
+    /// the first such gate. `DeviceFault` exactly where the disk failed in this call. `OutOfMemory`. The disk is as it
+    /// was then, or a sync made sure of it.
     pub fn reopen(
         alloc: Global,
         site: &Site,
@@ -50,11 +52,16 @@ impl<D: Disk, C: Clock> Store<D, C> {
             (D.shown disk).contents result }
         ensures device_fault { IfErr result (λ e. e.why ≡ StoreWhy.Journal WhyNot.DeviceFault
             → Rose (D.shown disk).faults (D.shown e.disk).faults) }
+        ensures no_fault { IfErr result (λ e. e.why ≢ StoreWhy.Journal WhyNot.DeviceFault
+            → (D.shown e.disk).faults ≡ (D.shown disk).faults) }
         ensures no_other { IfErr result (λ e. (e.why ≢ StoreWhy.Journal WhyNot.Present)
             × (e.why ≢ StoreWhy.ClockFault)) }
         ensures kept { IfErr result (λ e. IsKeptBy (D.shown disk) (D.shown e.disk) × (e.clock ≡ clock)) }
+        ensures rest { IfErr result (λ e. RestsUnlessFailed e.why (D.shown disk) (D.shown e.disk)) }
         ensures safe { IfOk result (λ store. IsSafe ((D.shown disk).moment + 2) store.history store.history []
             (D.shown disk) (D.shown store.disk)) }
+        ensures safe_from_rest { IsAtRest (D.shown disk) → IfOk result (λ store. IsSafe (D.shown disk).moment store.history
+            store.history [] (D.shown disk) (D.shown store.disk)) }
     {
         let mut journal = match Journal::reopen(alloc, disk) {
             Ok(journal) => journal,

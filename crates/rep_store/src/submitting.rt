@@ -37,8 +37,8 @@ impl<D: Disk, C: Clock> Store<D, C> {
     /// # Errors
     ///
     /// `Stopped` exactly where the store stopped before, with the count that it keeps. `OutOfMemory` only for a request
-    /// that is to be recorded, and `ClockFault` only where the clock failed in this call; then nothing changes.
-    /// `DeviceFault` only where the disk failed in this call; the store has stopped then.
+    /// that is to be recorded, and `ClockFault` exactly where the clock failed in this call; then nothing changes.
+    /// `DeviceFault` exactly where the disk failed in this call; the store has stopped then.
     pub fn submit(&mut self, q: &Request) -> Result<Reply, Stop>
         requires { IsRequest q.now }
         ensures served { IfOk result (λ reply. Serves D.shown C.readings C.faults q.now reply self.old self.new) }

@@ -1,10 +1,11 @@
 -- The disk and the clock of a recorder in a world.
-use Rattle.std.proofs.Common.{◌≡◌, ℕ, zero, suc, ◌<◌, List, [], ◌∷◌, ◌++◌, Some, refl, sym, ap, subst, ◌∙◌, arith}
+use Rattle.std.proofs.Common.{◌≡◌, ℕ, zero, suc, ◌<◌, List, [], ◌∷◌, ◌++◌, Some, refl, sym, ap, subst, arith}
 use Rattle.rep_disk.specs.Disk.{IsAtRest, IsOwnImage, last_moment}
-use Rattle.rep_disk.specs.Memory.{Memory, fresh, memory_shown, nothing_listed}
-use Rattle.rep_disk.specs.Record.{FitsCells, rested}
+use Rattle.rep_disk.specs.Memory.{Memory, fresh, memory_shown, nothing_listed, state_at}
+use Rattle.rep_disk.specs.Record.{FitsCells, image_of, rested}
+use Rattle.rep_disk.specs.declared.image.Image.{Image}
 use Rattle.rep_journal.specs.State.{IsRead}
-use Rattle.rep_ledger.proofs.DiskSteps.{Stayed-at}
+use Rattle.rep_ledger.proofs.DiskSteps.{IsAtRest-read, Stayed-at}
 use Rattle.sure_disk.specs.Sure.{sure_shown}
 use Rattle.rep_world.specs.Devices.{times}
 
@@ -32,14 +33,19 @@ pub read_bytes : (a b : Memory) → IsRead (sure_shown a) (sure_shown b) → b.b
 read_bytes a b read = told_same b.bytes a.bytes read.contents
 
 pub read_rest : (a b : Memory) → IsAtRest (sure_shown a) → IsRead (sure_shown a) (sure_shown b) → IsAtRest (sure_shown b)
-read_rest a b rest read = λ below image is.
-    rest (omega (arith, read.later)) image (read_images a b read below image is) ∙ sym (read_bytes a b read)
+read_rest a b rest read = IsAtRest-read (sure_shown a) (sure_shown b) rest read
 
 -- the bytes of a disk that was just made are an image
-own_cells : (bytes : List ℕ) → FitsCells (rested bytes) bytes
+pub own_cells : (bytes : List ℕ) → FitsCells (rested bytes) bytes
 own_cells [] = tt
 own_cells (x ∷ bytes) = (λ none. refl, own_cells bytes)
 
 pub made_own : (disk : Memory) (bytes : List ℕ) → disk ≡ fresh bytes nothing_listed → IsOwnImage (sure_shown disk)
 made_own disk bytes is =
     subst (λ (d : Memory). IsOwnImage (sure_shown d)) (sym is) (λ below. record { no_shorter = omega arith; fits = own_cells bytes })
+
+-- an image of now that was made by its name is one that a crash may leave
+pub named_allowed : (disk : Memory) (m : ℕ) (name : Image) (image : List ℕ) → m ≡ disk.moment → image ≡ image_of name (state_at disk m) → (memory_shown disk).may_leave m image → (memory_shown disk).may_leave disk.moment (image_of name (state_at disk disk.moment))
+named_allowed disk m name image now is leaves =
+    subst (λ (n : ℕ). (memory_shown disk).may_leave n (image_of name (state_at disk n))) now
+    (subst (λ (l : List ℕ). (memory_shown disk).may_leave m l) is leaves)

@@ -4,7 +4,7 @@ use Rattle.std.specs.Prelude.{All, Bool, IfOk}
 use Rattle.std.proofs.lemmas.List.Elements.{All-append, All-cons, All-nil}
 use Rattle.rep_disk.specs.Disk.{IsAtRest}
 use Rattle.rep_disk.specs.Memory.{Memory, Listed, fresh, memory_shown}
-use Rattle.rep_disk.specs.Record.{FitsCells, rested}
+use Rattle.rep_disk.specs.Record.{FitsCells, IsImage, at_rest, rested}
 use Rattle.rep_disk.specs.declared.image.Image.{Image}
 use Rattle.rep_wire.specs.Request.{IsRequest}
 use Rattle.rep_wire.specs.declared.request.Request.{Request}
@@ -33,13 +33,17 @@ use Rattle.rep_world.specs.World.{World, BehindFirst, IsNamed, IsReceiptIn, IsMe
 use Rattle.rep_world.specs.Events.{Counts, CrashesAtCall, Delivers, DeliversSettled, Does, FailsAtCall, IsNewWorld, NamesUnsent, Opens, SeesReply, Serves, StaysIdle, Steps, WhileUp, receipts_in}
 use Rattle.rep_world.specs.Fields.{IsImageNow, IsKept, Runs, RunsWhileUp, disk_of, is_up, world_of}
 use Rattle.rep_world.specs.Trial.{AnswersBy, CrashesOn, FailsOn, IsLeftAlone, IsMade, IsOpened, ServedAt, SettledOn}
+use Rattle.rep_world.proofs.Disks.{own_cells}
 use Rattle.rep_world.proofs.Histories.{pairs_once}
 use Rattle.rep_world.proofs.Trials.{left_as_before, left_runs}
 use Rattle.rep_world.proofs.Worlds.{GoesOn-refl, Keeps-more, as_before-world, crashes_goes_on, crashes_world, does_nothing, does_step, fails_goes_on, fails_world, is_sent, nothing_more, rests_goes_on, rests_world, serves_goes_on, serves_world, whole_is_sure, world_at_rest}
 
 -- a disk that was just made is at rest
 pub fresh_rest : (bytes : List ℕ) (listed : Listed) → IsAtRest (memory_shown (fresh bytes listed))
-fresh_rest bytes listed below image is = fits bytes image is.no_shorter is.fits
+fresh_rest bytes listed below image = (
+  λ is. fits bytes image is.no_shorter is.fits,
+  λ is. subst (IsImage (at_rest bytes)) (sym is) (record { no_shorter = omega arith; fits = own_cells bytes }),
+)
   where
     fits : (bytes image : List ℕ) → length bytes ≤ length image → FitsCells (rested bytes) image → image ≡ bytes
     fits [] [] longer all = refl
@@ -220,9 +224,9 @@ module _ (site : Site) (sent : List Request) (named : List Naming) (issued : Lis
       down = record { down = refl; issued = refl; people = record { site = refl; sent = refl } };
       named = is_named;
       left = fails.is_left;
-      third = fails.third;
       images = fails.images;
       closed = fails.closed;
+      by_name = fails.by_name;
       entries = n;
       counted = counts;
       sees = refl;

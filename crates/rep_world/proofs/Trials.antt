@@ -1,6 +1,7 @@
 -- What the recorder of a world does, from what its store does.
 use Rattle.std.proofs.Common.{◌≡◌, ℕ, ◌+◌, ◌-◌, ◌*◌, ◌^◌, ◌<◌, ◌≤◌, ◌⊎◌, inl, inr, ℤ, List, [], ◌∷◌, ◌++◌, length, drop, Option, Some, None, Result, Ok, Err, refl, sym, ap, subst, ◌∙◌, arith}
-use Rattle.std.specs.Prelude.{IfOk, IsSome}
+use Rattle.std.specs.Prelude.{Bool, IfOk, IsSome, if◌then◌else◌, nat_le}
+use Rattle.std.proofs.lemmas.Bool.{cases_lt, le-leb, lt-leb}
 use Rattle.rep_fields.specs.Moment.{moment_at}
 use Rattle.rep_disk.specs.Disk.{Shown, AdvancesBy, IsOwnImage, last_moment}
 use Rattle.rep_disk.specs.Memory.{Memory, memory_shown, state_at}
@@ -17,6 +18,7 @@ use Rattle.rep_core.specs.declared.verdict.Verdict.TheVariants.{Fresh}
 use Rattle.rep_journal.specs.Format.{Framed, closed_gate, end_of, front_text, IsJournalOf}
 use Rattle.rep_journal.proofs.KindLemmas.{one_journal}
 use Rattle.rep_ledger.specs.Ledger.{IsLedgerOf, frames_of}
+use Rattle.rep_ledger.specs.Leaving.{history_named}
 use Rattle.rep_ledger.specs.Safety.{IsFrontOf, IsImageOf, IsSafe, Receipted}
 use Rattle.rep_ledger.proofs.ContentLemmas.{one_ledger}
 use Rattle.rep_ledger.proofs.DiskSteps.{IsAtRest-rests, IsRead-refl}
@@ -33,10 +35,10 @@ use Rattle.rep_world.specs.declared.recorder.Recorder.{Recorder}
 use Rattle.rep_world.specs.declared.recorder.Recorder.TheVariants.{Up, Down}
 use Rattle.sure_disk.specs.Sure.{sure_shown}
 use Rattle.rep_world.specs.Devices.{times}
-use Rattle.rep_world.specs.Events.{Counts, IsAsBefore, KeepsBetween, RecordsIn, SettlesIn, first_minute}
+use Rattle.rep_world.specs.Events.{Counts, IsAsBefore, KeepsBetween, RecordsIn, SettlesIn, first_minute, history_left}
 use Rattle.rep_world.specs.Fields.{IsImageNow, Runs, RunsWhileUp, world_of}
 use Rattle.rep_world.specs.World.{World, IsWorld, Keeps}
-use Rattle.rep_world.specs.Trial.{CountsEach, CrashesOn, DueOn, FailsOn, IsLeftAlone, IsMade, IsOpened, ServedAt, SettledOn}
+use Rattle.rep_world.specs.Trial.{AllowsNamed, CountsEach, CrashesOn, DueOn, FailsOn, IsLeftAlone, IsMade, IsOpened, ServedAt, SettledOn}
 use Rattle.std.proofs.lemmas.List.{length-append}
 use Rattle.rep_world.proofs.Disks.{one_reading, read_bytes, read_images, read_images-back, read_rest, told_same}
 
@@ -254,33 +256,50 @@ pub counts_ok : {E : Type 0} (w : World) (r : Result ℕ E) → IsWorld w → If
 counts_ok w (Ok n) world each = counts_kept w w.disk.bytes n world.bytes each
 counts_ok w (Err e) world each = tt
 
-pub counts_between : (before whole : List Entry) (bytes : List ℕ) (n : ℕ) → KeepsBetween before whole bytes → CountsEach bytes n → Counts bytes n
-counts_between before whole bytes n keeps each = record { history = keeps.0; ledger = keeps.1; count = each keeps.0 keeps.1 }
+pub counts_of : (h : List Entry) (bytes : List ℕ) (n : ℕ) → IsLedgerOf bytes h → CountsEach bytes n → Counts bytes n
+counts_of h bytes n ledger each = record { history = h; ledger = ledger; count = each h ledger }
 
-pub counts_left : (call : ℕ) (before whole : List Entry) (bytes : List ℕ) (n : ℕ) → IsLeftAt call before whole bytes → CountsEach bytes n → Counts bytes n
-counts_left call before whole bytes n left each = elim left.either [
-  | inl kept ↦ record { history = before; ledger = kept; count = each before kept }
-  | inr kept ↦ record { history = whole; ledger = kept; count = each whole kept }
+-- one of two histories, by a test of a number
+if_within : (n end : ℕ) (kept other : List Entry) (bytes : List ℕ) → (n ≤ end → IsLedgerOf bytes kept) → (end < n → IsLedgerOf bytes other) → IsLedgerOf bytes (if nat_le n end then kept else other)
+if_within n end kept other bytes within past = elim (cases_lt end n) [
+  | inl less ↦ subst (λ (b : Bool). IsLedgerOf bytes (if b then kept else other)) (sym (lt-leb n end less)) (past less)
+  | inr most ↦ subst (λ (b : Bool). IsLedgerOf bytes (if b then kept else other)) (sym (le-leb n end most)) (within most)
 ]
 
 -- a device call failed
 calls_same : (failed call begun now : ℕ) → 0 < failed → failed ≤ 4 → call ≤ 4 → begun ≤ 2 ^ 62 → now ≡ begun + 2 * call → AdvancesBy (2 * failed) begun now → failed ≡ call
 calls_same failed call begun now some within four early is calls = omega arith
 
-pub fails_on : (site : Site) (minute call : ℕ) (q : Request) (disk : Memory) (old new : State Memory Dial) (receipts : List Receipted) (entries : ℕ) → Reopens memory_shown site disk (set_to minute) old → Stops memory_shown readings faults q old new → IsSafe old.disk.moment old.history (recorded_at old.history q old.offset new.reading) receipts (memory_shown old.disk) (memory_shown new.disk) → call ≤ 4 → old.disk.moment ≤ 2 ^ 62 → new.disk.moment ≡ old.disk.moment + 2 * call → CountsEach new.disk.bytes entries → (call ≡ 3 → entries ≡ length old.history) → FailsOn site minute call q disk.bytes new.disk
-fails_on site minute call q disk old new receipts entries r s safe four early is counts third =
+left_by : (call : ℕ) (before : List Entry) (e : Entry) (bytes : List ℕ) (entries : ℕ) → call ≤ 4 → IsLeftAt call before (before ++ e ∷ []) bytes → CountsEach bytes entries → (call ≡ 3 → entries ≡ length before) → IsLedgerOf bytes (history_left call before (before ++ e ∷ []))
+left_by call before e bytes entries four left counts third =
+    if_within call 3 before (before ++ e ∷ []) bytes
+    (λ within. elim (cases_lt call 3) [
+      | inl early ↦ left.early (omega (arith, early))
+      | inr late ↦ without before e bytes entries counts (third (omega (arith, within, late))) left.either
+    ])
+    (λ past. left.late (omega (arith, past, four)))
+
+pub fails_on : (site : Site) (minute call : ℕ) (q : Request) (disk : Memory) (old new : State Memory Dial) (receipts : List Receipted) (entries : ℕ) → Reopens memory_shown site disk (set_to minute) old → Stops memory_shown readings faults q old new → IsSafe old.disk.moment old.history (recorded_at old.history q old.offset new.reading) receipts (memory_shown old.disk) (memory_shown new.disk) → call ≤ 4 → old.disk.moment ≤ 2 ^ 62 → new.disk.moment ≡ old.disk.moment + 2 * call → CountsEach new.disk.bytes entries → (call ≡ 3 → entries ≡ length old.history) → AllowsNamed new.disk → FailsOn site minute call q disk.bytes new.disk
+fails_on site minute call q disk old new receipts entries r s safe four early is counts third allows =
+    let e : Entry = entry_of q (moment_at minute site.offset) in
     let whole = whole_is memory_shown site minute q old new r.same_clock s.takes r.is_new.offset in
     let same : s.failed ≡ call = calls_same s.failed call old.disk.moment new.disk.moment s.some s.within four early is s.calls in
     record {
       before = old.history;
       whole = recorded_after old.history q (moment_at minute site.offset);
       due = due_on memory_shown site minute q disk.bytes old new r.same_clock r.is_new.limit r.is_new.offset r.holds s.fresh;
-      is_left = subst (λ (n : ℕ). IsLeftAt n old.history (recorded_after old.history q (moment_at minute site.offset)) new.disk.bytes) same
-          (subst (λ (h : List Entry). IsLeftAt s.failed old.history h new.disk.bytes) whole s.contents);
-      third = λ at_third. without old.history (entry_of q (moment_at minute site.offset)) new.disk.bytes entries counts (third at_third)
-          (subst (λ (h : List Entry). IsLeftAt s.failed old.history h new.disk.bytes) whole s.contents).either;
+      is_left = left_by call old.history e new.disk.bytes entries four
+          (subst (λ (n : ℕ). IsLeftAt n old.history (recorded_after old.history q (moment_at minute site.offset)) new.disk.bytes) same
+          (subst (λ (h : List Entry). IsLeftAt s.failed old.history h new.disk.bytes) whole s.contents))
+          counts third;
       images = λ below image leaves. images_between memory_shown site minute q disk.bytes old new r.same_clock r.is_new.limit r.is_new.offset r.holds receipts s.takes refl safe below new.disk.moment image (omega (arith, is)) (omega arith) leaves;
       closed = λ early_call below image leaves. s.closed refl below new.disk.moment image (omega (arith, is)) (omega (arith, is, early_call)) (omega arith) leaves;
+      by_name = λ below name.
+          let image = image_of name (state_at new.disk new.disk.moment) in
+          if_within call 2 old.history (history_named name old.history (recorded_after old.history q (moment_at minute site.offset))) image
+          (λ early_call. s.closed refl below new.disk.moment image (omega (arith, is)) (omega (arith, is, early_call)) (omega arith) (allows name))
+          (λ late. subst (λ (h : List Entry). IsLedgerOf image (history_named name old.history h)) whole
+          ((s.at_gate below new.disk.moment (omega (arith, is, late)) (omega arith) (omega arith)).named name image refl));
     }
 
 -- nothing was put
@@ -323,12 +342,15 @@ crashes_on site minute call image q bytes left reply receipts old new clock open
       puts = record {
         calls = calls;
         rested = λ other leaves'.
-            opened.runs.settled.rest (omega (arith, early)) other (((safe refl below).past old.disk.moment other (omega arith)).0 leaves') ∙ opened.same;
+            (opened.runs.settled.rest (omega (arith, early)) other).0 (((safe refl below).past old.disk.moment other (omega arith)).0 leaves') ∙ opened.same;
         closed = λ m other from within leaves'. put.1.closed refl below m other from within (omega (arith, calls, within)) leaves';
         text = subst (λ (h : List Entry). new.disk.bytes ≡ front_text (frames_of h) ++ closed_gate ∷ drop (1 + end_of (frames_of h)) bytes) recorded
             (subst (λ (b : List ℕ). new.disk.bytes ≡ front_text (frames_of new.history) ++ closed_gate ∷ drop (1 + end_of (frames_of new.history)) b) opened.same put.1.text);
       };
       is_left = is;
       allowed = leaves;
-      keeps = images_between sure_shown site minute q bytes old new clock opened.runs.limit opened.runs.offset kept receipts put.1.takes refl safe below (old.disk.moment + (2 * call - 1)) left (omega arith) (omega (arith, calls, one, four)) leaves;
+      keeps = if_within call 2 old.history (history_named image old.history (recorded_after old.history q (moment_at minute site.offset))) left
+          (λ early_call. put.1.closed refl below (old.disk.moment + (2 * call - 1)) left (omega arith) (omega (arith, early_call, one)) (omega (arith, calls, one, four)) leaves)
+          (λ late. subst (λ (h : List Entry). IsLedgerOf left (history_named image old.history h)) recorded
+          ((put.1.at_gate below (old.disk.moment + (2 * call - 1)) (omega (arith, late)) (omega (arith, four, late)) (omega (arith, calls, one, four))).named image left (ap (λ (l : List ℕ). Some l) (sym is))));
     }

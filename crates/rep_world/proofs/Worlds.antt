@@ -1,11 +1,12 @@
 -- What an event does to a world, from what it does to its parts.
 use Rattle.std.proofs.Common.{◌≡◌, ℕ, ◌<◌, inl, inr, true, false, List, [], ◌∷◌, ◌++◌, Ok, Err, refl, sym, ap, subst, ◌∙◌, arith, append-nil, append_assoc}
-use Rattle.std.specs.Prelude.{All, Contains}
+use Rattle.std.specs.Prelude.{All, Bool, Contains, if◌then◌else◌, nat_le}
 use Rattle.std.proofs.lemmas.List.Elements.{All-append, Contains-push}
 use Rattle.rep_fields.specs.Moment.{moment_at}
 use Rattle.rep_disk.specs.Disk.{IsAtRest, last_moment}
 use Rattle.rep_disk.specs.Memory.{memory_shown}
 use Rattle.rep_disk.specs.declared.image.Image.{Image}
+use Rattle.rep_disk.specs.declared.image.Image.TheVariants.{Old, New, Odd}
 use Rattle.rep_wire.specs.declared.request.Request.{Request}
 use Rattle.rep_wire.specs.declared.request.Entry.{Entry}
 use Rattle.rep_wire.specs.declared.reply.Reply.{Reply}
@@ -18,13 +19,12 @@ use Rattle.rep_ledger.specs.Safety.{IsFrontOf}
 use Rattle.rep_ledger.proofs.ContentLemmas.{one_ledger}
 use Rattle.rep_ledger.proofs.SafetyLemmas.{IsFrontOf-push, IsFrontOf-refl, IsFrontOf-trans, founded_some}
 use Rattle.rep_site.specs.declared.site.Site.{Site}
-use Rattle.rep_store.specs.Steps.{IsLeftAt}
 use Rattle.rep_world.specs.declared.naming.Naming.{Naming}
 use Rattle.rep_world.specs.declared.event.Event.{Event}
 use Rattle.rep_world.specs.declared.event.Seen.{Seen}
 use Rattle.rep_world.specs.declared.event.WorldStop.TheVariants.{NotSent, OutOfMemory}
 use Rattle.rep_world.specs.World.{World, BehindFirst, HasMadeSure, IsHistory, IsImage, IsMessage, IsNamed, IsReceiptIn, IsWorld, Keeps, KeepsFrom}
-use Rattle.rep_world.specs.Events.{CrashesAtCall, Does, FailsAtCall, GoesOn, Happens, IsAsBefore, IsDue, IsUnsent, KeepsBetween, NamesUnsent, SamePeople, Serves, named_by, receipts_in}
+use Rattle.rep_world.specs.Events.{CrashesAtCall, Does, FailsAtCall, GoesOn, Happens, IsAsBefore, IsDue, IsUnsent, KeepsBetween, NamesUnsent, SamePeople, Serves, history_at, history_left, named_by, receipts_in}
 use Rattle.rep_world.specs.Play.{StaysSure}
 use Rattle.rep_world.proofs.Histories.{BehindFirst-push, BehindFirst-weaker, IsHistory-more, IsHistory-push, IsNamed-more, between_two, pairs_once, receipt_of_answer, receipts-more}
 
@@ -32,14 +32,14 @@ use Rattle.rep_world.proofs.Histories.{BehindFirst-push, BehindFirst-weaker, IsH
 pub world_at_rest : (w : World) → IsAtRest (memory_shown w.disk) → Keeps w w.disk.bytes → IsWorld w
 world_at_rest w rest keeps = record {
   bytes = keeps;
-  images = λ below image is. subst (Keeps w) (sym (rest below image is)) keeps;
+  images = λ below image is. subst (Keeps w) (sym ((rest below image).0 is)) keeps;
   rest = λ up. rest;
 }
 
 pub sure_at_rest : (w : World) (h : List Entry) → IsAtRest (memory_shown w.disk) → KeepsFrom h w.disk.bytes → HasMadeSure w h
 sure_at_rest w h rest keeps = record {
   bytes = keeps;
-  images = λ below image is. subst (KeepsFrom h) (sym (rest below image is)) keeps;
+  images = λ below image is. subst (KeepsFrom h) (sym ((rest below image).0 is)) keeps;
 }
 
 -- at rest the whole history is sure
@@ -100,7 +100,10 @@ module _ (old new : World) (same : IsAsBefore old new) where
   as_before-world world = record {
     bytes = subst (Keeps new) (sym same.bytes) (kept old.disk.bytes world.bytes);
     images = λ below image is. kept image (world.images (omega (arith, same.time)) image ((same.images below image).0 is));
-    rest = λ up below image is. world.rest (sym same.up ∙ up) (omega (arith, same.time)) image ((same.images below image).0 is) ∙ sym same.bytes;
+    rest = λ up below image.
+        let leaves = same.images below image in
+        let only = world.rest (sym same.up ∙ up) (omega (arith, same.time)) image in
+        (λ is. only.0 (leaves.0 is) ∙ sym same.bytes, λ is. leaves.1 (only.1 (is ∙ same.bytes)));
   }
     where
       kept : (bytes : List ℕ) → Keeps old bytes → Keeps new bytes
@@ -195,13 +198,19 @@ module _ (k minute : ℕ) (old new : World) (reply : Reply) (s : Serves k minute
     sure = λ h sure. sure_at_rest new h rest (s.after, s.keeps, IsFrontOf-trans h s.before s.after (sure_kept old s.before h s.kept sure) before_after);
   }
 
--- what is left keeps the history from before, or the whole one
-pub between_of_left : (call : ℕ) (before whole : List Entry) (bytes : List ℕ) → IsFrontOf before whole → IsLeftAt call before whole bytes → KeepsBetween before whole bytes
-between_of_left call before whole bytes front left =
-    elim left.either [
-      | inl kept ↦ (before, kept, IsFrontOf-refl before, front)
-      | inr kept ↦ (whole, kept, front, IsFrontOf-refl whole)
-    ]
+-- bytes that keep the history from before, or another one, keep one between
+either_between : (first : Bool) (before whole h : List Entry) (bytes : List ℕ) → IsFrontOf before whole → IsFrontOf before h → IsFrontOf h whole → IsLedgerOf bytes (if first then before else h) → KeepsBetween before whole bytes
+either_between true before whole h bytes front one two kept = (before, kept, IsFrontOf-refl before, front)
+either_between false before whole h bytes front one two kept = (h, kept, one, two)
+
+-- so where a device call failed, and in each image that is named
+pub left_between : (call : ℕ) (before whole : List Entry) (bytes : List ℕ) → IsFrontOf before whole → IsLedgerOf bytes (history_left call before whole) → KeepsBetween before whole bytes
+left_between call before whole bytes front = either_between (nat_le call 3) before whole whole bytes front front (IsFrontOf-refl whole)
+
+pub named_between : (call : ℕ) (name : Image) (before whole : List Entry) (bytes : List ℕ) → IsFrontOf before whole → IsLedgerOf bytes (history_at call name before whole) → KeepsBetween before whole bytes
+named_between call Old before whole bytes front = either_between (nat_le call 2) before whole before bytes front (IsFrontOf-refl before) front
+named_between call New before whole bytes front = either_between (nat_le call 2) before whole whole bytes front front (IsFrontOf-refl whole)
+named_between call Odd before whole bytes front = either_between (nat_le call 2) before whole before bytes front (IsFrontOf-refl before) front
 
 pub due_front : (k minute : ℕ) (w : World) (due : IsDue k minute w) → IsFrontOf due.before due.whole
 due_front k minute w due =
@@ -211,7 +220,7 @@ due_front k minute w due =
 module _ (k minute call : ℕ) (old new : World) (seen : Seen) (f : FailsAtCall k minute call old new seen) where
   pub fails_world : IsWorld old → IsWorld new
   fails_world world = record {
-    bytes = kept new.disk.bytes (between_of_left call f.due.before f.due.whole new.disk.bytes (due_front k minute old f.due) f.left);
+    bytes = kept new.disk.bytes (left_between call f.due.before f.due.whole new.disk.bytes (due_front k minute old f.due) f.left);
     images = λ below image is. kept image (f.images below image is);
     rest = λ up. absurd (false_true (sym f.down.down ∙ up));
   }
@@ -223,16 +232,19 @@ module _ (k minute call : ℕ) (old new : World) (seen : Seen) (f : FailsAtCall 
       kept = keeps_between old new k minute f.due.request f.due.message f.down.people f.named f.due.before f.due.whole f.due.is_whole f.due.kept.founded (history_kept old f.due.before f.due.kept world) f.down.issued
 
   pub fails_goes_on : GoesOn old new
-  fails_goes_on = goes_down old new k minute f.due.request f.due.message f.down.people f.named f.due.before f.due.whole f.due.kept f.down.issued (between_of_left call f.due.before f.due.whole new.disk.bytes (due_front k minute old f.due) f.left) f.images
+  fails_goes_on = goes_down old new k minute f.due.request f.due.message f.down.people f.named f.due.before f.due.whole f.due.kept f.down.issued (left_between call f.due.before f.due.whole new.disk.bytes (due_front k minute old f.due) f.left) f.images
 
 -- a crash came
 module _ (k minute call : ℕ) (image : Image) (old new : World) (seen : Seen) (f : CrashesAtCall k minute call image old new seen) where
+  keeps : KeepsBetween f.due.before f.due.whole new.disk.bytes
+  keeps = named_between call image f.due.before f.due.whole new.disk.bytes (due_front k minute old f.due) f.keeps
+
   pub crashes_world : IsWorld old → IsWorld new
   crashes_world world = world_at_rest new f.rest
-      (keeps_between old new k minute f.due.request f.due.message f.down.people f.named f.due.before f.due.whole f.due.is_whole f.due.kept.founded (history_kept old f.due.before f.due.kept world) f.down.issued new.disk.bytes f.keeps)
+      (keeps_between old new k minute f.due.request f.due.message f.down.people f.named f.due.before f.due.whole f.due.is_whole f.due.kept.founded (history_kept old f.due.before f.due.kept world) f.down.issued new.disk.bytes keeps)
 
   pub crashes_goes_on : GoesOn old new
-  crashes_goes_on = goes_down old new k minute f.due.request f.due.message f.down.people f.named f.due.before f.due.whole f.due.kept f.down.issued f.keeps (λ below bytes is. subst (KeepsBetween f.due.before f.due.whole) (sym (f.rest below bytes is)) f.keeps)
+  crashes_goes_on = goes_down old new k minute f.due.request f.due.message f.down.people f.named f.due.before f.due.whole f.due.kept f.down.issued keeps (λ below bytes is. subst (KeepsBetween f.due.before f.due.whole) (sym ((f.rest below bytes).0 is)) keeps)
 
 -- the disk is at rest with bytes that the old one had or might have been left with, and nothing else changed
 module _ (old new : World) (people : SamePeople old new) (named : new.named ≡ old.named) (issued : new.issued ≡ old.issued) (rest : IsAtRest (memory_shown new.disk)) where

@@ -1,5 +1,5 @@
 -- The events of a world, and what each does: this project's own.
-use Rattle.std.specs.Prelude.{◌≡◌, ◌⊎◌, ◌↔◌, ℕ, ◌+◌, ◌-◌, ◌*◌, ◌<◌, ◌≤◌, Bool, true, false, List, [], ◌∷◌, ◌++◌, length, drop, IfOk, OnErr, Result, Err}
+use Rattle.std.specs.Prelude.{◌≡◌, ◌⊎◌, ◌↔◌, ℕ, ◌+◌, ◌-◌, ◌*◌, ◌<◌, ◌≤◌, Bool, true, false, if◌then◌else◌, nat_le, List, [], ◌∷◌, ◌++◌, length, drop, IfOk, OnErr, Result, Err}
 use Rattle.rep_fields.specs.Moment.{moment_at}
 use Rattle.rep_io.specs.Streams.{IsReading}
 use Rattle.rep_disk.specs.Disk.{IsAtRest, last_moment}
@@ -19,10 +19,10 @@ use Rattle.rep_core.specs.declared.verdict.Verdict.TheVariants.{Fresh}
 use Rattle.rep_journal.specs.Format.{closed_gate, end_of, front_text}
 use Rattle.rep_ledger.specs.Ledger.{IsLedgerOf, frames_of}
 use Rattle.rep_ledger.specs.Safety.{IsFrontOf}
+use Rattle.rep_ledger.specs.Leaving.{history_named}
 use Rattle.rep_site.specs.declared.site.Site.{Site}
 use Rattle.rep_store.specs.Extracting.{IsAfdOf}
 use Rattle.rep_store.specs.Founding.{founding_request}
-use Rattle.rep_store.specs.Steps.{IsLeftAt}
 use Rattle.rep_world.specs.declared.naming.Naming.{Naming}
 use Rattle.rep_world.specs.World.{World, IsMessage, IsImage, HasMadeSure}
 use Rattle.rep_world.specs.declared.event.Event.{Event}
@@ -136,17 +136,26 @@ pub record IsDue (k minute : ℕ) (w : World) : Type 0 where
 abbrev pub KeepsBetween : List Entry → List Entry → List ℕ → Type 0
 KeepsBetween before whole bytes = (h : List Entry) × IsLedgerOf bytes h × IsFrontOf before h × IsFrontOf h whole
 
+-- What the bytes keep where the device call with this number failed: a write that fails isn't made.
+abbrev pub history_left : ℕ → List Entry → List Entry → List Entry
+history_left call without whole = if nat_le call 3 then without else whole
+
+-- What the image of this name keeps within the device call with this number: up to the frame's sync no image has the entry.
+abbrev pub history_at : ℕ → Image → List Entry → List Entry → List Entry
+history_at call name without whole = if nat_le call 2 then without else history_named name without whole
+
 -- The device call with this number of the message's put failed, and those before it were made.
 pub record FailsAtCall (k minute call : ℕ) (old new : World) (seen : Seen) : Type 0 where
   pub due : IsDue k minute old
   pub down : GoesDown old new
   pub named : new.named ≡ named_by old k minute
-  pub left : IsLeftAt call due.before due.whole new.disk.bytes
-  -- where the gate's write fails, it isn't made
-  pub third : call ≡ 3 → IsLedgerOf new.disk.bytes due.before
+  pub left : IsLedgerOf new.disk.bytes (history_left call due.before due.whole)
   pub images : new.disk.moment < last_moment → (image : List ℕ) → IsImage new image → KeepsBetween due.before due.whole image
   -- where the frame isn't sure yet, no image has the entry
   pub closed : call ≤ 2 → new.disk.moment < last_moment → (image : List ℕ) → IsImage new image → IsLedgerOf image due.before
+  -- which history a crash leaves then, by the image's name
+  pub by_name : new.disk.moment < last_moment → (name : Image)
+      → IsLedgerOf (image_of name (state_at new.disk new.disk.moment)) (history_at call name due.before due.whole)
   pub entries : ℕ
   pub counted : Counts new.disk.bytes entries
   pub sees : seen ≡ Failed entries
@@ -171,7 +180,7 @@ pub record CrashesAtCall (k minute call : ℕ) (image : Image) (old new : World)
   pub puts : PutsOn old.disk.bytes due.before due.whole begun during
   pub left : new.disk.bytes ≡ image_of image (state_at during (begun + (2 * call - 1)))
   pub allowed : (memory_shown during).may_leave (begun + (2 * call - 1)) new.disk.bytes
-  pub keeps : KeepsBetween due.before due.whole new.disk.bytes
+  pub keeps : IsLedgerOf new.disk.bytes (history_at call image due.before due.whole)
   pub rest : IsAtRest (memory_shown new.disk)
   pub entries : ℕ
   pub counted : Counts new.disk.bytes entries

@@ -18,14 +18,18 @@ use Rattle.afd_extract.specs.Period.{IsPeriod, Range}
 use Rattle.rep_store.specs.Extracting.{IsAfdOf}
 use Rattle.rep_store.specs.Founding.{founding_request}
 use Rattle.rep_store.specs.State.{State}
-use Rattle.rep_store.specs.Steps.{IsKeptAsWas, IsLeftAt}
+use Rattle.rep_store.specs.Steps.{IsKeptAsWas}
 use Rattle.sure_disk.specs.Sure.{sure_shown}
-use Rattle.rep_world.specs.Events.{Counts, KeepsBetween, PutsOn, RecordsIn, SettlesIn, first_minute}
+use Rattle.rep_world.specs.Events.{Counts, KeepsBetween, PutsOn, RecordsIn, SettlesIn, first_minute, history_at, history_left}
 use Rattle.rep_world.specs.Fields.{Runs}
 use Rattle.rep_world.specs.declared.dial.Dial.{Dial}
 use Rattle.rep_world.specs.declared.recorder.Left.{Left}
 use Rattle.rep_world.specs.declared.recorder.Recorder.{Recorder}
 use Rattle.rep_world.specs.declared.recorder.Recorder.TheVariants.{Up, Down}
+
+-- each image of now that has a name is one that a crash may leave
+abbrev pub AllowsNamed : Memory → Type 0
+AllowsNamed disk = (name : Image) → (memory_shown disk).may_leave disk.moment (image_of name (state_at disk disk.moment))
 
 -- each history that the bytes keep has so many entries
 abbrev pub CountsEach : List ℕ → ℕ → Type 0
@@ -59,12 +63,13 @@ pub record FailsOn (site : Site) (minute call : ℕ) (q : Request) (bytes : List
   pub before : List Entry
   pub whole : List Entry
   pub due : DueOn site minute q bytes before whole
-  pub is_left : IsLeftAt call before whole left.bytes
-  pub third : call ≡ 3 → IsLedgerOf left.bytes before
+  pub is_left : IsLedgerOf left.bytes (history_left call before whole)
   pub images : left.moment < last_moment → (image : List ℕ) → (memory_shown left).may_leave left.moment image
       → KeepsBetween before whole image
   pub closed : call ≤ 2 → left.moment < last_moment → (image : List ℕ) → (memory_shown left).may_leave left.moment image
       → IsLedgerOf image before
+  pub by_name : left.moment < last_moment → (name : Image)
+      → IsLedgerOf (image_of name (state_at left left.moment)) (history_at call name before whole)
 
 -- a crash came within the device call with this number, and left these bytes
 pub record CrashesOn (site : Site) (minute call : ℕ) (image : Image) (q : Request) (bytes left : List ℕ) : Type 0 where
@@ -76,7 +81,7 @@ pub record CrashesOn (site : Site) (minute call : ℕ) (image : Image) (q : Requ
   pub puts : PutsOn bytes before whole begun during
   pub is_left : left ≡ image_of image (state_at during (begun + (2 * call - 1)))
   pub allowed : (memory_shown during).may_leave (begun + (2 * call - 1)) left
-  pub keeps : KeepsBetween before whole left
+  pub keeps : IsLedgerOf left (history_at call image before whole)
 
 -- the request isn't to be recorded
 pub record SettledOn (site : Site) (q : Request) (bytes : List ℕ) : Type 0 where

@@ -7,7 +7,7 @@ ghost use Rattle.rep_site.specs.Site.{IsSite};
 ghost use Rattle.rep_store.specs.Steps.{IsKeptAsWas};
 ghost use Rattle.sure_disk.specs.Sure.{sure_shown};
 ghost use Rattle.rep_world.specs.Fields.{Runs, RunsForSome, RunsWhileUp, disk_of};
-ghost use Rattle.rep_world.specs.Trial.{AnswersBy, CountsEach, CrashesOn, ExtractsFrom, FailsOrSettles, IsLeftAlone, IsMade, IsOpened, ServedAt, SettledOn};
+ghost use Rattle.rep_world.specs.Trial.{AllowsNamed, AnswersBy, CountsEach, CrashesOn, ExtractsFrom, FailsOrSettles, IsLeftAlone, IsMade, IsOpened, ServedAt, SettledOn};
 
 use crate::dial::Dial;
 use crate::recorder::{Left, Recorder};
@@ -155,6 +155,17 @@ fn fails_at(alloc: Global, call: u8) -> Result<Fails, OutOfMemory> {
     Ok(fails)
 }
 
+// Makes each image of now that has a name, by which it is known that a crash may leave it.
+fn name_images(alloc: Global, disk: &MemDisk) -> Result<(), OutOfMemory>
+    ensures { IfOk result (λ _. AllowsNamed disk.now) }
+{
+    let moment = disk.moment();
+    let _old = disk.image(alloc, moment, Image::Old)?;
+    let _new = disk.image(alloc, moment, Image::New)?;
+    let _odd = disk.image(alloc, moment, Image::Odd)?;
+    Ok(())
+}
+
 /// What is left where the device call with this number of a request's put fails, on a disk with these bytes; none
 /// where the request isn't to be recorded.
 pub(crate) fn fail(
@@ -186,6 +197,7 @@ pub(crate) fn fail(
         Ok(_) | Err(_) => return Err(OutOfMemory),
     }
     let (disk, _) = store.into_parts();
+    name_images(alloc, &disk)?;
     let entries = count(alloc, disk.bytes())?;
     // A write that fails isn't made, which the store can't know of every disk.
     if call == 3 && entries != before {

@@ -1,6 +1,7 @@
-use Rattle.std.proofs.Common.{◌∙◌, inl, inr, ℕ, List, sym, subst, refl}
+use Rattle.std.proofs.Common.{◌∙◌, inl, inr, ap, ℕ, List, sym, subst, refl}
 use Rattle.rep_io.specs.Causes.{Rose}
-use Rattle.rep_report.specs.Saying.{SaysLine}
+use Rattle.rep_report.specs.Saying.{SaysLine, status_of as ending_status}
+use Rattle.rep_run.specs.Creating.{status_of}
 use Rattle.rep_query.specs.Writing.{ending_by}
 use Rattle.rep_query.proofs.Extracts.{causes_of, clock_of, device_of, leaves_of, sink_of, source_of, told_of, whole_of}
 use Rattle.rep_query.proofs.Openings.{short_of, stops_clock, stops_device, stops_sink, stops_source}
@@ -151,3 +152,28 @@ pub returns-in-Err-clause-complete : goal.returns-in-Err-clause-complete
 returns-in-Err-clause-complete g c = λ text contents said h told_text says told_contents keeps no_site no_clock no_file no_out no_disk.
     inr (c.status-in-Err.ensures ∙ short_of (g.S.Source.faults c.args.site) (g.S.Source.faults c.open.new.site) (g.D.Disk.shown c.args.disk).faults (g.D.Disk.shown c.in-Err.closed.disk).faults c.in-Err.closed.stopping
     (c.in-Err.ensures.found text contents said h told_text says told_contents keeps) no_site no_disk)
+
+-- no fault is passed over
+
+pub returns-in-Ok-clause-no_source_fault : goal.returns-in-Ok-clause-no_source_fault
+returns-in-Ok-clause-no_source_fault g c = λ other cut. c.in-Ok.ensures.no_source_fault
+
+pub returns-in-Ok-clause-no_sink_fault : goal.returns-in-Ok-clause-no_sink_fault
+returns-in-Ok-clause-no_sink_fault g c = λ cut. c.write_out-told.ensures.no_file_fault (λ is. cut (c.status.ensures ∙ ap ending_status is))
+
+pub returns-in-Ok-clause-no_device_fault : goal.returns-in-Ok-clause-no_device_fault
+returns-in-Ok-clause-no_device_fault g c = λ other cut.
+    ap (λ d. (g.D.Disk.shown d).faults) c.into_parts-disk.ensures.disk ∙ c.write_out-told.ensures.no_device_fault (λ is. other (c.status.ensures ∙ ap ending_status is)) (λ is. cut (c.status.ensures ∙ ap ending_status is)) ∙ c.in-Ok.ensures.opens.no_fault
+
+pub returns-in-Ok-clause-no_clock_fault : goal.returns-in-Ok-clause-no_clock_fault
+returns-in-Ok-clause-no_clock_fault g c = λ other cut.
+    ap g.C.Clock.faults c.into_parts-disk.ensures.clock ∙ c.write_out-told.ensures.no_clock_fault (λ is. other (c.status.ensures ∙ ap ending_status is)) (λ is. cut (c.status.ensures ∙ ap ending_status is)) ∙ ap g.C.Clock.faults c.in-Ok.ensures.opens.same_clock
+
+pub returns-in-Err-clause-no_source_fault : goal.returns-in-Err-clause-no_source_fault
+returns-in-Err-clause-no_source_fault g c = λ other cut. c.in-Err.ensures.no_source_fault (λ is. other (c.status-in-Err.ensures ∙ ap status_of is))
+
+pub returns-in-Err-clause-no_device_fault : goal.returns-in-Err-clause-no_device_fault
+returns-in-Err-clause-no_device_fault g c = λ other cut. c.in-Err.ensures.no_device_fault (λ is. other (c.status-in-Err.ensures ∙ ap status_of is))
+
+pub returns-in-Err-clause-no_clock_fault : goal.returns-in-Err-clause-no_clock_fault
+returns-in-Err-clause-no_clock_fault g c = λ other cut. ap g.C.Clock.faults c.in-Err.ensures.stops.1

@@ -1,6 +1,7 @@
 use Rattle.std.proofs.Common.{◌-◌, ◌∙◌, refl, sym, arith}
 use Rattle.std.proofs.lemmas.Bool.{false≢true}
 use Rattle.rep_core.specs.History.{IsEmployer}
+use Rattle.rep_run.proofs.Known.{not_both}
 use Rattle.rep_query.proofs.Finds.{searched_all, searched_found, searched_none, searched_one}
 use Rattle.rep_query.proofs.finding.last_employer.Goals as goal
 
@@ -10,7 +11,7 @@ loop-number-init g c = searched_none IsEmployer g.D.Disk.shown c.args.nsr c.args
 pub loop-number-preserved : goal.loop-number-preserved
 loop-number-preserved g c =
     searched_one IsEmployer g.D.Disk.shown c.loop-number.number (c.loop-number.number - 1) c.args.nsr c.args.store.now c.loop-number.store c.filed_at.new.store c.in-Ok.filed.entry c.loop-number.invariant (omega arith)
-    c.filed_at.ensures.looks c.in-Ok.ensures.filed.numbered (λ is. false≢true (sym c.if-is_employer.false ∙ c.is_employer.ensures.1 is))
+    c.filed_at.ensures.looks (c.filed_at.ensures.no_fault (not_both c.in-Ok.is)) c.in-Ok.ensures.filed.numbered (λ is. false≢true (sym c.if-is_employer.false ∙ c.is_employer.ensures.1 is))
 
 pub returns-then-is_employer-clause-found : goal.returns-then-is_employer-clause-found
 returns-then-is_employer-clause-found g c = (
@@ -23,3 +24,6 @@ returns-then-is_employer-clause-found g c = (
 pub returns-clause-lacks : goal.returns-clause-lacks
 returns-clause-lacks g c =
     searched_all IsEmployer g.D.Disk.shown c.loop-number.number c.args.nsr (g.D.Disk.shown c.args.store.now.disk).faults (g.D.Disk.shown c.loop-number.store.disk).faults c.args.store.now c.loop-number.store c.loop-number.invariant (omega arith)
+
+pub returns-clause-no_fault : goal.returns-clause-no_fault
+returns-clause-no_fault g c = λ other. c.loop-number.invariant.no_fault

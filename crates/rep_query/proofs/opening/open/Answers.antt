@@ -1,9 +1,11 @@
-use Rattle.std.proofs.Common.{sym, subst, refl}
+use Rattle.std.proofs.Common.{sym, subst, refl, ap, ◌∙◌}
 use Rattle.rep_journal.specs.Format.{IsBlank, IsForeign}
 use Rattle.rep_journal.specs.declared.error.WhyNot.TheVariants as why
 use Rattle.rep_ledger.specs.Ledger.{IsDamagedAt}
 use Rattle.rep_store.specs.declared.error.StoreWhy.TheVariants.{Journal}
 use Rattle.rep_run.specs.declared.stopping.Stopping.{Stopping}
+use Rattle.rep_run.specs.Steps.{stopping_of}
+use Rattle.rep_run.proofs.Known.{not_both, same_err}
 use Rattle.rep_run.proofs.CreatingLemmas.{refused_only}
 use Rattle.rep_run.proofs.RunningLemmas.{cut_short}
 use Rattle.rep_query.specs.Opening.{IsForWant, StopsOpening}
@@ -40,7 +42,7 @@ returns-in-Err-reopen-clause-stops g c =
           (refused_only _ IsBlank (Journal why.Blank) (g.D.Disk.shown c.args.disk).contents c.in-Err-reopen.none e.blank)
           (refused_only _ IsForeign (Journal why.Foreign) (g.D.Disk.shown c.args.disk).contents c.in-Err-reopen.none e.foreign)
           (λ at. refused_only _ (IsDamagedAt at) (Journal (why.Damaged at)) (g.D.Disk.shown c.args.disk).contents c.in-Err-reopen.none (e.damaged at))
-          e.device_fault e.no_other e.kept.0),
+          e.device_fault e.no_other e.kept.0 e.rest),
       e.kept.1,
     )
 
@@ -53,3 +55,15 @@ returns-in-Err-reopen-clause-found g c = λ text contents said h told says told_
 
 pub returns-in-Ok-reopen-clause-of_site : goal.returns-in-Ok-reopen-clause-of_site
 returns-in-Ok-reopen-clause-of_site g c = sym c.in-Ok-reopen.ensures.reopened.is_new.of_site
+
+pub returns-in-Err-clause-no_source_fault : goal.returns-in-Err-clause-no_source_fault
+returns-in-Err-clause-no_source_fault g c = λ other. c.read_site.ensures.no_fault (λ is. other (same_err c.read_site.result c.in-Err.stopping _ c.in-Err.is is))
+
+pub returns-in-Ok-reopen-clause-no_source_fault : goal.returns-in-Ok-reopen-clause-no_source_fault
+returns-in-Ok-reopen-clause-no_source_fault g c = c.read_site.ensures.no_fault (not_both c.in-Ok.is)
+
+pub returns-in-Err-reopen-clause-no_source_fault : goal.returns-in-Err-reopen-clause-no_source_fault
+returns-in-Err-reopen-clause-no_source_fault g c = λ other. c.read_site.ensures.no_fault (not_both c.in-Ok.is)
+
+pub returns-in-Err-reopen-clause-no_device_fault : goal.returns-in-Err-reopen-clause-no_device_fault
+returns-in-Err-reopen-clause-no_device_fault g c = λ other. c.in-Err-reopen.ensures.no_fault (λ is. other (c.no_store.ensures ∙ ap stopping_of is))

@@ -1,7 +1,8 @@
-use Rattle.std.proofs.Common.{◌∙◌, inl, inr, ℕ, List, sym, subst}
+use Rattle.std.proofs.Common.{◌∙◌, inl, inr, ap, ℕ, List, sym, subst}
 use Rattle.rep_io.specs.Causes.{Rose}
 use Rattle.rep_report.specs.Saying.{SaysLine}
-use Rattle.rep_query.proofs.Gives.{answered_by, answered_clock, answered_device, answered_sink, answered_source, answered_whole}
+use Rattle.rep_run.specs.Creating.{status_of}
+use Rattle.rep_query.proofs.Gives.{answered_failed, answered_by, answered_clock, answered_device, answered_sink, answered_source, answered_whole}
 use Rattle.rep_query.proofs.Openings.{short_of, stops_clock, stops_device, stops_sink, stops_source}
 use Rattle.rep_query.proofs.receipts.receipt.Goals as goal
 
@@ -82,3 +83,20 @@ pub returns-in-Err-clause-complete : goal.returns-in-Err-clause-complete
 returns-in-Err-clause-complete g c = λ text contents said h e told_text says told_contents keeps numbered clocking no_site no_out no_disk.
     inr (c.status.ensures ∙ short_of (g.S.Source.faults c.args.site) (g.S.Source.faults c.open.new.site) (g.D.Disk.shown c.args.disk).faults (g.D.Disk.shown c.in-Err.closed.disk).faults c.in-Err.closed.stopping
     (c.in-Err.ensures.found text contents said h told_text says told_contents keeps) no_site no_disk)
+
+-- no fault is passed over
+
+pub returns-in-Ok-clause-no_source_fault : goal.returns-in-Ok-clause-no_source_fault
+returns-in-Ok-clause-no_source_fault g c = λ other. c.in-Ok.ensures.no_source_fault
+
+pub returns-in-Ok-clause-no_device_fault : goal.returns-in-Ok-clause-no_device_fault
+returns-in-Ok-clause-no_device_fault g c = λ other.
+    ap (λ d. (g.D.Disk.shown d).faults) c.into_parts-disk.ensures.disk
+    ∙ c.find-found.ensures.no_fault (λ is. other (answered_failed c.args.nsr (g.K.Sink.written c.args.out) (g.K.Sink.written c.answer-status.new.out) _ c.answer-status.result c.find-found.result is c.answer-status.ensures.none))
+    ∙ c.in-Ok.ensures.opens.no_fault
+
+pub returns-in-Err-clause-no_source_fault : goal.returns-in-Err-clause-no_source_fault
+returns-in-Err-clause-no_source_fault g c = λ other. c.in-Err.ensures.no_source_fault (λ is. other (c.status.ensures ∙ ap status_of is))
+
+pub returns-in-Err-clause-no_device_fault : goal.returns-in-Err-clause-no_device_fault
+returns-in-Err-clause-no_device_fault g c = λ other. c.in-Err.ensures.no_device_fault (λ is. other (c.status.ensures ∙ ap status_of is))

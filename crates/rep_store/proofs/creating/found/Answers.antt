@@ -34,7 +34,7 @@ accept-requires-clause-fresh g c = λ h stands.
 pub invariant_of-result : goal.invariant_of-result
 invariant_of-result g c =
     let offset : to_z w16 (of_z w16 c.args.site.now.offset) ≡ c.args.site.now.offset = search rules in
-    let ticks : Ticks g.C.Clock.readings g.C.Clock.faults c.in-Ok.minute c.args.clock c.now.new.self = record { in_range = c.in-Ok.ensures.reading.0; given = c.in-Ok.ensures.reading.1; later = c.in-Ok.ensures.cause.later } in
+    let ticks : Ticks g.C.Clock.readings g.C.Clock.faults c.in-Ok.minute c.args.clock c.now.new.self = record { in_range = c.in-Ok.ensures.reading.0; given = c.in-Ok.ensures.reading.1; no_fault = c.in-Ok.ensures.cause.kept } in
     let told : Some c.in-Some.now ≡ Some (moment_at c.in-Ok.minute c.args.site.now.offset) =
     subst (λ (z : ℤ). Some c.in-Some.now ≡ Some (moment_at c.in-Ok.minute z)) offset
     (c.in-Some.ensures.reading ticks.in_range.0 ticks.in_range.1 (subst IsOffset (sym offset) c.requires.site.offset)) in
@@ -52,7 +52,7 @@ invariant_of-result g c =
 pub returns-in-Ok-create-clause-founded : goal.returns-in-Ok-create-clause-founded
 returns-in-Ok-create-clause-founded g c =
     let offset : to_z w16 (of_z w16 c.args.site.now.offset) ≡ c.args.site.now.offset = search rules in
-    let ticks : Ticks g.C.Clock.readings g.C.Clock.faults c.in-Ok.minute c.args.clock c.now.new.self = record { in_range = c.in-Ok.ensures.reading.0; given = c.in-Ok.ensures.reading.1; later = c.in-Ok.ensures.cause.later } in
+    let ticks : Ticks g.C.Clock.readings g.C.Clock.faults c.in-Ok.minute c.args.clock c.now.new.self = record { in_range = c.in-Ok.ensures.reading.0; given = c.in-Ok.ensures.reading.1; no_fault = c.in-Ok.ensures.cause.kept } in
     let told : Some c.in-Some.now ≡ Some (moment_at c.in-Ok.minute c.args.site.now.offset) =
     subst (λ (z : ℤ). Some c.in-Some.now ≡ Some (moment_at c.in-Ok.minute z)) offset
     (c.in-Some.ensures.reading ticks.in_range.0 ticks.in_range.1 (subst IsOffset (sym offset) c.requires.site.offset)) in
@@ -65,7 +65,7 @@ returns-in-Ok-create-clause-founded g c =
 pub returns-in-Ok-create-clause-safe : goal.returns-in-Ok-create-clause-safe
 returns-in-Ok-create-clause-safe g c =
     let offset : to_z w16 (of_z w16 c.args.site.now.offset) ≡ c.args.site.now.offset = search rules in
-    let ticks : Ticks g.C.Clock.readings g.C.Clock.faults c.in-Ok.minute c.args.clock c.now.new.self = record { in_range = c.in-Ok.ensures.reading.0; given = c.in-Ok.ensures.reading.1; later = c.in-Ok.ensures.cause.later } in
+    let ticks : Ticks g.C.Clock.readings g.C.Clock.faults c.in-Ok.minute c.args.clock c.now.new.self = record { in_range = c.in-Ok.ensures.reading.0; given = c.in-Ok.ensures.reading.1; no_fault = c.in-Ok.ensures.cause.kept } in
     let told : Some c.in-Some.now ≡ Some (moment_at c.in-Ok.minute c.args.site.now.offset) =
     subst (λ (z : ℤ). Some c.in-Some.now ≡ Some (moment_at c.in-Ok.minute z)) offset
     (c.in-Some.ensures.reading ticks.in_range.0 ticks.in_range.1 (subst IsOffset (sym offset) c.requires.site.offset)) in
@@ -78,7 +78,7 @@ returns-in-Ok-create-clause-safe g c =
 pub returns-in-Err-clause-refused : goal.returns-in-Err-clause-refused
 returns-in-Err-clause-refused g c =
     let offset : to_z w16 (of_z w16 c.args.site.now.offset) ≡ c.args.site.now.offset = search rules in
-    let ticks : Ticks g.C.Clock.readings g.C.Clock.faults c.in-Ok.minute c.args.clock c.now.new.self = record { in_range = c.in-Ok.ensures.reading.0; given = c.in-Ok.ensures.reading.1; later = c.in-Ok.ensures.cause.later } in
+    let ticks : Ticks g.C.Clock.readings g.C.Clock.faults c.in-Ok.minute c.args.clock c.now.new.self = record { in_range = c.in-Ok.ensures.reading.0; given = c.in-Ok.ensures.reading.1; no_fault = c.in-Ok.ensures.cause.kept } in
     let told : Some c.in-Some.now ≡ Some (moment_at c.in-Ok.minute c.args.site.now.offset) =
     subst (λ (z : ℤ). Some c.in-Some.now ≡ Some (moment_at c.in-Ok.minute z)) offset
     (c.in-Some.ensures.reading ticks.in_range.0 ticks.in_range.1 (subst IsOffset (sym offset) c.requires.site.offset)) in
@@ -94,7 +94,7 @@ returns-in-Err-clause-refused g c =
 pub returns-in-Err-clause-safe : goal.returns-in-Err-clause-safe
 returns-in-Err-clause-safe g c = λ rest.
     let offset : to_z w16 (of_z w16 c.args.site.now.offset) ≡ c.args.site.now.offset = search rules in
-    let ticks : Ticks g.C.Clock.readings g.C.Clock.faults c.in-Ok.minute c.args.clock c.now.new.self = record { in_range = c.in-Ok.ensures.reading.0; given = c.in-Ok.ensures.reading.1; later = c.in-Ok.ensures.cause.later } in
+    let ticks : Ticks g.C.Clock.readings g.C.Clock.faults c.in-Ok.minute c.args.clock c.now.new.self = record { in_range = c.in-Ok.ensures.reading.0; given = c.in-Ok.ensures.reading.1; no_fault = c.in-Ok.ensures.cause.kept } in
     let told : Some c.in-Some.now ≡ Some (moment_at c.in-Ok.minute c.args.site.now.offset) =
     subst (λ (z : ℤ). Some c.in-Some.now ≡ Some (moment_at c.in-Ok.minute z)) offset
     (c.in-Some.ensures.reading ticks.in_range.0 ticks.in_range.1 (subst IsOffset (sym offset) c.requires.site.offset)) in

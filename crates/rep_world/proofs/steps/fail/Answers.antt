@@ -6,10 +6,10 @@ use Rattle.rep_store.specs.Steps.{receipts_of}
 use Rattle.rep_store.specs.declared.error.Stop.{Stop}
 use Rattle.rep_store.specs.declared.error.Stop.TheVariants.{DeviceFault}
 use Rattle.rep_world.specs.declared.dial.Dial.{Dial}
-use Rattle.rep_world.specs.Events.{Counts}
-use Rattle.rep_world.specs.Trial.{CountsEach, FailsOn}
+use Rattle.rep_world.specs.Events.{Counts, history_left}
+use Rattle.rep_world.specs.Trial.{AllowsNamed, CountsEach, FailsOn}
 use Rattle.rep_world.proofs.Serving.{none_of}
-use Rattle.rep_world.proofs.Trials.{counts_left, fails_on, settled_on}
+use Rattle.rep_world.proofs.Trials.{counts_of, fails_on, settled_on}
 use Rattle.rep_world.proofs.steps.fail.Goals as goal
 use Rattle.rep_world.proofs.steps.fail.Goals.{else-call-eq3-via-then-call-eq3+else-entries-before, else-call-eq3-via-else-call-eq3}
 
@@ -36,14 +36,15 @@ returns c =
     let is : new.disk.moment ≡ old.disk.moment + 2 * c.args.call = omega (arith, begun, moment, c.from.ensures, c.if-moment-begun.true) in
     let told = subst (λ (bytes : List ℕ). CountsEach bytes entries) c.bytes.ensures c.in_ok-entries.ensures in
     let counts = subst (λ (d : Memory). CountsEach d.bytes entries) c.into_parts-disk.ensures.disk told in
+    let allows = subst AllowsNamed c.into_parts-disk.ensures.disk c.in_ok-name_images.ensures in
     let third : c.args.call ≡ 3 → entries ≡ length old.history = λ at_third. elim c.else-call-eq3.branch [
       | else-call-eq3-via-then-call-eq3+else-entries-before w ↦ omega (arith, w.if-entries-before.false, c.count-before.ensures.value)
       | else-call-eq3-via-else-call-eq3 w ↦ absurd (omega (arith, w.if-call-eq3.false, at_third))
     ] in
     let fails = subst (λ (bytes : List ℕ). FailsOn c.args.site.now c.args.minute c.args.call c.args.q.now bytes new.disk) same
-    (fails_on c.args.site.now c.args.minute c.args.call c.args.q.now c.new-disk.result old new (receipts_of new.disk.moment c.submit.result) entries reopens (c.submit.ensures.device_fault failed) (c.submit.ensures.safe c.in-Ok.ensures.reopened.is_new.running) c.requires.call early is counts third) in (
+    (fails_on c.args.site.now c.args.minute c.args.call c.args.q.now c.new-disk.result old new (receipts_of new.disk.moment c.submit.result) entries reopens (c.submit.ensures.device_fault failed) (c.submit.ensures.safe c.in-Ok.ensures.reopened.is_new.running) c.requires.call early is counts third allows) in (
       subst (λ (d : Memory). FailsOn c.args.site.now c.args.minute c.args.call c.args.q.now c.args.bytes.now d) (sym c.into_parts-disk.ensures.disk)
           fails,
       subst (λ (d : Memory). Counts d.bytes entries) (sym c.into_parts-disk.ensures.disk)
-          (counts_left c.args.call fails.before fails.whole new.disk.bytes entries fails.is_left counts),
+          (counts_of (history_left c.args.call fails.before fails.whole) new.disk.bytes entries fails.is_left counts),
     )

@@ -1,4 +1,4 @@
-use Rattle.std.proofs.Common.{◌≡◌, ℕ, Result, Err, sym, ap, subst, ◌∙◌}
+use Rattle.std.proofs.Common.{◌≡◌, Result, Err, sym, ap, subst, ◌∙◌}
 use Rattle.rep_store.specs.State.{State}
 use Rattle.rep_lane.specs.Desk.{PutsExtract}
 use Rattle.rep_lane.specs.declared.desk.DeskFail.{DeskFail}
@@ -24,4 +24,4 @@ returns-clause-puts g c =
     (λ count stopped. let l = s.left count stopped in (l.0, ap g.K.Sink.written l.1))
     (λ missed. let m = s.clock_fault missed in (m.0, ap g.K.Sink.written m.1))
     (λ cut. (s.sink_fault cut).0)
-    s.device_fault s.safe))
+    s.device_fault s.no_device_fault s.safe))

@@ -45,7 +45,7 @@ returns-clause-extracted g c =
     let device = c.self.inside.device in
     let site = c.self.inside.site in
     let runs = sym c.stopped.ensures ∙ c.in_default.is in
-    let ticks : Ticks g.C.Clock.readings g.C.Clock.faults c.in-Ok.minute c.self.inside.clock c.now.new.self = record { in_range = c.in-Ok.ensures.reading.0; given = c.in-Ok.ensures.reading.1; later = c.now.ensures.cause.later } in
+    let ticks : Ticks g.C.Clock.readings g.C.Clock.faults c.in-Ok.minute c.self.inside.clock c.now.new.self = record { in_range = c.in-Ok.ensures.reading.0; given = c.in-Ok.ensures.reading.1; no_fault = c.in-Ok.ensures.cause.kept } in
     let offset : to_z w16 (of_z w16 c.self.inside.site.offset) ≡ c.self.inside.site.offset = search rules in
     let told : Some c.in-Some-at.made ≡ Some (moment_at c.in-Ok.minute c.self.inside.site.offset) =
     subst (λ (z : ℤ). Some c.in-Some-at.made ≡ Some (moment_at c.in-Ok.minute z)) offset
@@ -68,7 +68,7 @@ returns-clause-sink_fault g c = λ is.
     let device = c.self.inside.device in
     let site = c.self.inside.site in
     let runs = sym c.stopped.ensures ∙ c.in_default.is in
-    let ticks : Ticks g.C.Clock.readings g.C.Clock.faults c.in-Ok.minute c.self.inside.clock c.now.new.self = record { in_range = c.in-Ok.ensures.reading.0; given = c.in-Ok.ensures.reading.1; later = c.now.ensures.cause.later } in
+    let ticks : Ticks g.C.Clock.readings g.C.Clock.faults c.in-Ok.minute c.self.inside.clock c.now.new.self = record { in_range = c.in-Ok.ensures.reading.0; given = c.in-Ok.ensures.reading.1; no_fault = c.in-Ok.ensures.cause.kept } in
     let offset : to_z w16 (of_z w16 c.self.inside.site.offset) ≡ c.self.inside.site.offset = search rules in
     let told : Some c.in-Some-at.made ≡ Some (moment_at c.in-Ok.minute c.self.inside.site.offset) =
     subst (λ (z : ℤ). Some c.in-Some-at.made ≡ Some (moment_at c.in-Ok.minute z)) offset
@@ -91,7 +91,7 @@ returns-clause-device_fault g c = λ is.
     let device = c.self.inside.device in
     let site = c.self.inside.site in
     let runs = sym c.stopped.ensures ∙ c.in_default.is in
-    let ticks : Ticks g.C.Clock.readings g.C.Clock.faults c.in-Ok.minute c.self.inside.clock c.now.new.self = record { in_range = c.in-Ok.ensures.reading.0; given = c.in-Ok.ensures.reading.1; later = c.now.ensures.cause.later } in
+    let ticks : Ticks g.C.Clock.readings g.C.Clock.faults c.in-Ok.minute c.self.inside.clock c.now.new.self = record { in_range = c.in-Ok.ensures.reading.0; given = c.in-Ok.ensures.reading.1; no_fault = c.in-Ok.ensures.cause.kept } in
     let offset : to_z w16 (of_z w16 c.self.inside.site.offset) ≡ c.self.inside.site.offset = search rules in
     let told : Some c.in-Some-at.made ≡ Some (moment_at c.in-Ok.minute c.self.inside.site.offset) =
     subst (λ (z : ℤ). Some c.in-Some-at.made ≡ Some (moment_at c.in-Ok.minute z)) offset

@@ -30,7 +30,7 @@ pub returns-then-is_err-clause-step : goal.returns-then-is_err-clause-step
 returns-then-is_err-clause-step g c =
     let running = ap (λ (s : State g.row.D.Denot g.row.C.Denot). s.stopped) c.self.view_is ∙ c.requires.running in
     subst (λ (s : State g.row.D.Denot g.row.C.Denot). LeavesAll g.D.Disk.shown s (state_of c.take_room.new.core c.take_room.new.device c.self.inside.clock c.self.inside.site None)) c.self.view_is
-    (record { kept = IsKeptAsWas-reserved g.D.Disk.shown c.self.inside.core c.take_room.new.core c.self.inside.device c.take_room.new.device c.self.inside.site c.take_room.ensures.core c.take_room.ensures.limit c.take_room.ensures.device running c.self.inside.clock c.self.inside.clock c.self.inside.reading None; clock = refl; reading = refl })
+    (record { kept = IsKeptAsWas-reserved g.D.Disk.shown c.self.inside.core c.take_room.new.core c.self.inside.device c.take_room.new.device c.self.inside.site c.take_room.ensures.core c.take_room.ensures.limit c.take_room.ensures.device running c.self.inside.clock c.self.inside.clock c.self.inside.reading None; no_fault = c.take_room.ensures.device.disk.faults; clock = refl; reading = refl })
 
 pub returns-then-is_err-clause-safe : goal.returns-then-is_err-clause-safe
 returns-then-is_err-clause-safe g c =
@@ -53,6 +53,7 @@ returns-in_default-clause-step g c =
     subst (λ (s : State g.row.D.Denot g.row.C.Denot). MissesTime g.D.Disk.shown g.C.Clock.readings g.C.Clock.faults s (state_of c.take_room.new.core c.take_room.new.device c.now.new.self c.self.inside.site None)) c.self.view_is
     (record {
       kept = IsKeptAsWas-reserved g.D.Disk.shown c.self.inside.core c.take_room.new.core c.self.inside.device c.take_room.new.device c.self.inside.site c.take_room.ensures.core c.take_room.ensures.limit c.take_room.ensures.device running c.self.inside.clock c.now.new.self c.self.inside.reading None;
+      no_disk_fault = c.take_room.ensures.device.disk.faults;
       readings = c.in_default.ensures.reading;
       cause = c.in_default.ensures.cause.failed;
       reading = refl;
@@ -79,7 +80,7 @@ invariant_of-self-then-is_err-2 g c =
     let fresh = subst (λ (s : State g.row.D.Denot g.row.C.Denot). IsVerdict s.limit s.history c.args.q.now Fresh) (sym c.self.view_is) c.requires.fresh in
     let whole = IsWhole-reserved g.D.Disk.shown c.self.inside.core c.take_room.new.core c.self.inside.device c.take_room.new.device c.self.inside.site c.take_room.ensures.core c.take_room.ensures.limit c.take_room.ensures.device running c.self.invariant.0 in
     let same = same_entries g.D.Disk.shown c.self.inside.core c.take_room.new.core c.self.inside.device c.take_room.new.device c.self.inside.site c.take_room.ensures.core c.take_room.ensures.limit c.take_room.ensures.device running in
-    let ticks : Ticks g.C.Clock.readings g.C.Clock.faults c.in-Ok.minute c.self.inside.clock c.now.new.self = record { in_range = c.in-Ok.ensures.reading.0; given = c.in-Ok.ensures.reading.1; later = c.in-Ok.ensures.cause.later } in
+    let ticks : Ticks g.C.Clock.readings g.C.Clock.faults c.in-Ok.minute c.self.inside.clock c.now.new.self = record { in_range = c.in-Ok.ensures.reading.0; given = c.in-Ok.ensures.reading.1; no_fault = c.in-Ok.ensures.cause.kept } in
     let offset : to_z w16 (of_z w16 c.self.inside.site.offset) ≡ c.self.inside.site.offset = search rules in
     let told : Some c.in-Some.now ≡ Some (moment_at c.in-Ok.minute c.self.inside.site.offset) =
     subst (λ (z : ℤ). Some c.in-Some.now ≡ Some (moment_at c.in-Ok.minute z)) offset
@@ -101,7 +102,7 @@ returns-then-is_err-2-clause-step g c =
     let fresh = subst (λ (s : State g.row.D.Denot g.row.C.Denot). IsVerdict s.limit s.history c.args.q.now Fresh) (sym c.self.view_is) c.requires.fresh in
     let whole = IsWhole-reserved g.D.Disk.shown c.self.inside.core c.take_room.new.core c.self.inside.device c.take_room.new.device c.self.inside.site c.take_room.ensures.core c.take_room.ensures.limit c.take_room.ensures.device running c.self.invariant.0 in
     let same = same_entries g.D.Disk.shown c.self.inside.core c.take_room.new.core c.self.inside.device c.take_room.new.device c.self.inside.site c.take_room.ensures.core c.take_room.ensures.limit c.take_room.ensures.device running in
-    let ticks : Ticks g.C.Clock.readings g.C.Clock.faults c.in-Ok.minute c.self.inside.clock c.now.new.self = record { in_range = c.in-Ok.ensures.reading.0; given = c.in-Ok.ensures.reading.1; later = c.in-Ok.ensures.cause.later } in
+    let ticks : Ticks g.C.Clock.readings g.C.Clock.faults c.in-Ok.minute c.self.inside.clock c.now.new.self = record { in_range = c.in-Ok.ensures.reading.0; given = c.in-Ok.ensures.reading.1; no_fault = c.in-Ok.ensures.cause.kept } in
     let offset : to_z w16 (of_z w16 c.self.inside.site.offset) ≡ c.self.inside.site.offset = search rules in
     let told : Some c.in-Some.now ≡ Some (moment_at c.in-Ok.minute c.self.inside.site.offset) =
     subst (λ (z : ℤ). Some c.in-Some.now ≡ Some (moment_at c.in-Ok.minute z)) offset
@@ -120,7 +121,7 @@ returns-then-is_err-2-clause-safe g c =
     let fresh = subst (λ (s : State g.row.D.Denot g.row.C.Denot). IsVerdict s.limit s.history c.args.q.now Fresh) (sym c.self.view_is) c.requires.fresh in
     let whole = IsWhole-reserved g.D.Disk.shown c.self.inside.core c.take_room.new.core c.self.inside.device c.take_room.new.device c.self.inside.site c.take_room.ensures.core c.take_room.ensures.limit c.take_room.ensures.device running c.self.invariant.0 in
     let same = same_entries g.D.Disk.shown c.self.inside.core c.take_room.new.core c.self.inside.device c.take_room.new.device c.self.inside.site c.take_room.ensures.core c.take_room.ensures.limit c.take_room.ensures.device running in
-    let ticks : Ticks g.C.Clock.readings g.C.Clock.faults c.in-Ok.minute c.self.inside.clock c.now.new.self = record { in_range = c.in-Ok.ensures.reading.0; given = c.in-Ok.ensures.reading.1; later = c.in-Ok.ensures.cause.later } in
+    let ticks : Ticks g.C.Clock.readings g.C.Clock.faults c.in-Ok.minute c.self.inside.clock c.now.new.self = record { in_range = c.in-Ok.ensures.reading.0; given = c.in-Ok.ensures.reading.1; no_fault = c.in-Ok.ensures.cause.kept } in
     let offset : to_z w16 (of_z w16 c.self.inside.site.offset) ≡ c.self.inside.site.offset = search rules in
     let told : Some c.in-Some.now ≡ Some (moment_at c.in-Ok.minute c.self.inside.site.offset) =
     subst (λ (z : ℤ). Some c.in-Some.now ≡ Some (moment_at c.in-Ok.minute z)) offset
@@ -139,7 +140,7 @@ invariant_of-self-2 g c =
     let fresh = subst (λ (s : State g.row.D.Denot g.row.C.Denot). IsVerdict s.limit s.history c.args.q.now Fresh) (sym c.self.view_is) c.requires.fresh in
     let whole = IsWhole-reserved g.D.Disk.shown c.self.inside.core c.take_room.new.core c.self.inside.device c.take_room.new.device c.self.inside.site c.take_room.ensures.core c.take_room.ensures.limit c.take_room.ensures.device running c.self.invariant.0 in
     let same = same_entries g.D.Disk.shown c.self.inside.core c.take_room.new.core c.self.inside.device c.take_room.new.device c.self.inside.site c.take_room.ensures.core c.take_room.ensures.limit c.take_room.ensures.device running in
-    let ticks : Ticks g.C.Clock.readings g.C.Clock.faults c.in-Ok.minute c.self.inside.clock c.now.new.self = record { in_range = c.in-Ok.ensures.reading.0; given = c.in-Ok.ensures.reading.1; later = c.in-Ok.ensures.cause.later } in
+    let ticks : Ticks g.C.Clock.readings g.C.Clock.faults c.in-Ok.minute c.self.inside.clock c.now.new.self = record { in_range = c.in-Ok.ensures.reading.0; given = c.in-Ok.ensures.reading.1; no_fault = c.in-Ok.ensures.cause.kept } in
     let offset : to_z w16 (of_z w16 c.self.inside.site.offset) ≡ c.self.inside.site.offset = search rules in
     let told : Some c.in-Some.now ≡ Some (moment_at c.in-Ok.minute c.self.inside.site.offset) =
     subst (λ (z : ℤ). Some c.in-Some.now ≡ Some (moment_at c.in-Ok.minute z)) offset
@@ -161,7 +162,7 @@ returns-clause-step g c =
     let fresh = subst (λ (s : State g.row.D.Denot g.row.C.Denot). IsVerdict s.limit s.history c.args.q.now Fresh) (sym c.self.view_is) c.requires.fresh in
     let whole = IsWhole-reserved g.D.Disk.shown c.self.inside.core c.take_room.new.core c.self.inside.device c.take_room.new.device c.self.inside.site c.take_room.ensures.core c.take_room.ensures.limit c.take_room.ensures.device running c.self.invariant.0 in
     let same = same_entries g.D.Disk.shown c.self.inside.core c.take_room.new.core c.self.inside.device c.take_room.new.device c.self.inside.site c.take_room.ensures.core c.take_room.ensures.limit c.take_room.ensures.device running in
-    let ticks : Ticks g.C.Clock.readings g.C.Clock.faults c.in-Ok.minute c.self.inside.clock c.now.new.self = record { in_range = c.in-Ok.ensures.reading.0; given = c.in-Ok.ensures.reading.1; later = c.in-Ok.ensures.cause.later } in
+    let ticks : Ticks g.C.Clock.readings g.C.Clock.faults c.in-Ok.minute c.self.inside.clock c.now.new.self = record { in_range = c.in-Ok.ensures.reading.0; given = c.in-Ok.ensures.reading.1; no_fault = c.in-Ok.ensures.cause.kept } in
     let offset : to_z w16 (of_z w16 c.self.inside.site.offset) ≡ c.self.inside.site.offset = search rules in
     let told : Some c.in-Some.now ≡ Some (moment_at c.in-Ok.minute c.self.inside.site.offset) =
     subst (λ (z : ℤ). Some c.in-Some.now ≡ Some (moment_at c.in-Ok.minute z)) offset
@@ -183,7 +184,7 @@ returns-clause-safe g c =
     let fresh = subst (λ (s : State g.row.D.Denot g.row.C.Denot). IsVerdict s.limit s.history c.args.q.now Fresh) (sym c.self.view_is) c.requires.fresh in
     let whole = IsWhole-reserved g.D.Disk.shown c.self.inside.core c.take_room.new.core c.self.inside.device c.take_room.new.device c.self.inside.site c.take_room.ensures.core c.take_room.ensures.limit c.take_room.ensures.device running c.self.invariant.0 in
     let same = same_entries g.D.Disk.shown c.self.inside.core c.take_room.new.core c.self.inside.device c.take_room.new.device c.self.inside.site c.take_room.ensures.core c.take_room.ensures.limit c.take_room.ensures.device running in
-    let ticks : Ticks g.C.Clock.readings g.C.Clock.faults c.in-Ok.minute c.self.inside.clock c.now.new.self = record { in_range = c.in-Ok.ensures.reading.0; given = c.in-Ok.ensures.reading.1; later = c.in-Ok.ensures.cause.later } in
+    let ticks : Ticks g.C.Clock.readings g.C.Clock.faults c.in-Ok.minute c.self.inside.clock c.now.new.self = record { in_range = c.in-Ok.ensures.reading.0; given = c.in-Ok.ensures.reading.1; no_fault = c.in-Ok.ensures.cause.kept } in
     let offset : to_z w16 (of_z w16 c.self.inside.site.offset) ≡ c.self.inside.site.offset = search rules in
     let told : Some c.in-Some.now ≡ Some (moment_at c.in-Ok.minute c.self.inside.site.offset) =
     subst (λ (z : ℤ). Some c.in-Some.now ≡ Some (moment_at c.in-Ok.minute z)) offset

@@ -17,7 +17,7 @@ use Rattle.rep_store.proofs.store.Store.submit.Goals as goal
 
 pub record-requires-clause-fresh : goal.record-requires-clause-fresh
 record-requires-clause-fresh g c =
-    let verdict = subst (λ (v : Verdict). IsVerdict c.self.inside.core.limit c.self.inside.core.entries c.args.q.now v) c.in-Fresh.is (c.decide.ensures c.self.inside.core.entries (Stands-own c.self.inside.core)) in
+    let verdict = subst (λ (v : Verdict). IsVerdict c.self.inside.core.limit c.self.inside.core.entries c.args.q.now v) c.in-Fresh.is (c.decide.ensures.exact c.self.inside.core.entries (Stands-own c.self.inside.core) (c.kept.ensures.came c.self.inside.core.entries (Stands-own c.self.inside.core))) in
     let fresh = subst (λ (s : State g.row.D.Denot g.row.C.Denot). IsVerdict s.limit s.history c.args.q.now Fresh) c.self.view_is verdict in
     fresh
 
@@ -25,7 +25,7 @@ pub returns-in-Fresh-clause-served : goal.returns-in-Fresh-clause-served
 returns-in-Fresh-clause-served g c =
     let runs = sym c.stopped.ensures ∙ c.in_default.is in
     let running = subst (λ (s : State g.row.D.Denot g.row.C.Denot). s.stopped ≡ None) c.self.view_is runs in
-    let verdict = subst (λ (v : Verdict). IsVerdict c.self.inside.core.limit c.self.inside.core.entries c.args.q.now v) c.in-Fresh.is (c.decide.ensures c.self.inside.core.entries (Stands-own c.self.inside.core)) in
+    let verdict = subst (λ (v : Verdict). IsVerdict c.self.inside.core.limit c.self.inside.core.entries c.args.q.now v) c.in-Fresh.is (c.decide.ensures.exact c.self.inside.core.entries (Stands-own c.self.inside.core) (c.kept.ensures.came c.self.inside.core.entries (Stands-own c.self.inside.core))) in
     let fresh = subst (λ (s : State g.row.D.Denot g.row.C.Denot). IsVerdict s.limit s.history c.args.q.now Fresh) c.self.view_is verdict in
     served_by g.D.Disk.shown g.C.Clock.readings g.C.Clock.faults c.args.q.now c.args.self.now c.record.new.self running fresh c.record.result c.record.ensures.step
 
@@ -33,7 +33,7 @@ pub returns-in-Fresh-clause-clock_fault : goal.returns-in-Fresh-clause-clock_fau
 returns-in-Fresh-clause-clock_fault g c =
     let runs = sym c.stopped.ensures ∙ c.in_default.is in
     let running = subst (λ (s : State g.row.D.Denot g.row.C.Denot). s.stopped ≡ None) c.self.view_is runs in
-    let verdict = subst (λ (v : Verdict). IsVerdict c.self.inside.core.limit c.self.inside.core.entries c.args.q.now v) c.in-Fresh.is (c.decide.ensures c.self.inside.core.entries (Stands-own c.self.inside.core)) in
+    let verdict = subst (λ (v : Verdict). IsVerdict c.self.inside.core.limit c.self.inside.core.entries c.args.q.now v) c.in-Fresh.is (c.decide.ensures.exact c.self.inside.core.entries (Stands-own c.self.inside.core) (c.kept.ensures.came c.self.inside.core.entries (Stands-own c.self.inside.core))) in
     let fresh = subst (λ (s : State g.row.D.Denot g.row.C.Denot). IsVerdict s.limit s.history c.args.q.now Fresh) c.self.view_is verdict in
     clock_fault_by g.D.Disk.shown g.C.Clock.readings g.C.Clock.faults c.args.q.now c.args.self.now c.record.new.self running fresh c.record.result c.record.ensures.step
 
@@ -41,7 +41,7 @@ pub returns-in-Fresh-clause-memory : goal.returns-in-Fresh-clause-memory
 returns-in-Fresh-clause-memory g c =
     let runs = sym c.stopped.ensures ∙ c.in_default.is in
     let running = subst (λ (s : State g.row.D.Denot g.row.C.Denot). s.stopped ≡ None) c.self.view_is runs in
-    let verdict = subst (λ (v : Verdict). IsVerdict c.self.inside.core.limit c.self.inside.core.entries c.args.q.now v) c.in-Fresh.is (c.decide.ensures c.self.inside.core.entries (Stands-own c.self.inside.core)) in
+    let verdict = subst (λ (v : Verdict). IsVerdict c.self.inside.core.limit c.self.inside.core.entries c.args.q.now v) c.in-Fresh.is (c.decide.ensures.exact c.self.inside.core.entries (Stands-own c.self.inside.core) (c.kept.ensures.came c.self.inside.core.entries (Stands-own c.self.inside.core))) in
     let fresh = subst (λ (s : State g.row.D.Denot g.row.C.Denot). IsVerdict s.limit s.history c.args.q.now Fresh) c.self.view_is verdict in
     memory_by g.D.Disk.shown g.C.Clock.readings g.C.Clock.faults c.args.q.now c.args.self.now c.record.new.self running fresh c.record.result c.record.ensures.step
 
@@ -49,7 +49,7 @@ pub returns-in_default-decide : goal.returns-in_default-decide
 returns-in_default-decide g c =
     let runs = sym c.stopped.ensures ∙ c.in_default.is in
     let running = subst (λ (s : State g.row.D.Denot g.row.C.Denot). s.stopped ≡ None) c.self.view_is runs in
-    let verdict = c.decide.ensures c.self.inside.core.entries (Stands-own c.self.inside.core) in
+    let verdict = c.decide.ensures.exact c.self.inside.core.entries (Stands-own c.self.inside.core) (c.kept.ensures.came c.self.inside.core.entries (Stands-own c.self.inside.core)) in
     let answered : IsReply c.self.inside.core.limit c.self.inside.core.entries c.args.q.now c.reply.result = c.reply.ensures c.self.inside.core.entries (Stands-own c.self.inside.core) in
     record {
       served =
@@ -60,6 +60,7 @@ returns-in_default-decide g c =
               λ fresh. c.in_default-decide.not-Fresh (IsVerdict-unique c.self.inside.core.limit c.self.inside.core.entries c.args.q.now c.decide.result Fresh verdict fresh),
               record {
                 kept = record { site = refl; history = refl; limit = refl; offset = refl; faults = refl; stopped = refl; disk = IsRead-refl (g.D.Disk.shown c.self.inside.device.disk) };
+                no_fault = refl;
                 clock = refl;
                 reading = refl;
               },

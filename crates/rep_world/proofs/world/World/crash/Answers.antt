@@ -13,7 +13,7 @@ use Rattle.rep_world.specs.declared.recorder.Recorder.TheVariants.{Down}
 use Rattle.rep_world.proofs.Events.{crash_does, crash_idle, crash_kept, settled_crash}
 use Rattle.rep_world.proofs.Messages.{asked_of}
 use Rattle.rep_world.proofs.Rooms.{no_memory, room_does, room_kept}
-use Rattle.rep_world.proofs.Trials.{counts_between, left_alone-refl}
+use Rattle.rep_world.proofs.Trials.{counts_of, left_alone-refl}
 use Rattle.rep_world.proofs.Worlds.{does_not, is_sent}
 use Rattle.rep_world.proofs.world.World.crash.Goals as goal
 
@@ -84,7 +84,7 @@ invariant_of-self-2 c =
     let tried : CrashesOn s.site c.args.minute c.args.call c.args.image c.in-Some.request.now c.in-Some-bytes_while_up.bytes.now left = rw c.in-Some-tried.is at c.in-Ok.ensures in
     let crashes = subst (λ (bytes : List ℕ). CrashesOn s.site c.args.minute c.args.call c.args.image c.in-Some.request.now bytes left) c.in-Some-bytes_while_up.ensures.1 tried in
     let each = subst (λ (bytes : List ℕ). CountsEach bytes n) c.deref-2.ensures.value c.in-Ok-count.ensures in
-    let counts = counts_between tried.before tried.whole left n tried.keeps each in
+    let counts = counts_of _ left n tried.keeps each in
     let listed : Listed = record { all = c.no_fails.result.all.items; reads = c.no_fails.result.reads.items; writes = c.no_fails.result.writes.items; syncs = c.no_fails.result.syncs.items } in
     subst (λ (d : Memory). IsKept s.site s.sent.items c.push_reserved.new.self.items s.issued.items (Down d)) (sym c.new.ensures.made)
     (crash_kept s.site s.sent.items s.named.items s.issued.items s.recorder c.self.invariant c.in-Some-bytes_while_up.ensures.0 c.args.k c.args.minute c.args.call c.in-Some.request.now message c.push_reserved.new.self.items named c.args.image left crashes listed n counts)
@@ -99,7 +99,7 @@ returns-clause-does c =
     let tried : CrashesOn s.site c.args.minute c.args.call c.args.image c.in-Some.request.now c.in-Some-bytes_while_up.bytes.now left = rw c.in-Some-tried.is at c.in-Ok.ensures in
     let crashes = subst (λ (bytes : List ℕ). CrashesOn s.site c.args.minute c.args.call c.args.image c.in-Some.request.now bytes left) c.in-Some-bytes_while_up.ensures.1 tried in
     let each = subst (λ (bytes : List ℕ). CountsEach bytes n) c.deref-2.ensures.value c.in-Ok-count.ensures in
-    let counts = counts_between tried.before tried.whole left n tried.keeps each in
+    let counts = counts_of _ left n tried.keeps each in
     let listed : Listed = record { all = c.no_fails.result.all.items; reads = c.no_fails.result.reads.items; writes = c.no_fails.result.writes.items; syncs = c.no_fails.result.syncs.items } in
     subst (λ (w : World). Does (Crash c.args.k c.args.minute c.args.call c.args.image) w (world_of s.site s.sent.items c.push_reserved.new.self.items s.issued.items (Down c.new.result)) (Ok (Crashed n))) c.self.view_is
     (subst (λ (d : Memory). Does (Crash c.args.k c.args.minute c.args.call c.args.image) (world_of s.site s.sent.items s.named.items s.issued.items s.recorder) (world_of s.site s.sent.items c.push_reserved.new.self.items s.issued.items (Down d)) (Ok (Crashed n))) (sym c.new.ensures.made)
@@ -115,7 +115,7 @@ returns-clause-holds c =
     let tried : CrashesOn s.site c.args.minute c.args.call c.args.image c.in-Some.request.now c.in-Some-bytes_while_up.bytes.now left = rw c.in-Some-tried.is at c.in-Ok.ensures in
     let crashes = subst (λ (bytes : List ℕ). CrashesOn s.site c.args.minute c.args.call c.args.image c.in-Some.request.now bytes left) c.in-Some-bytes_while_up.ensures.1 tried in
     let each = subst (λ (bytes : List ℕ). CountsEach bytes n) c.deref-2.ensures.value c.in-Ok-count.ensures in
-    let counts = counts_between tried.before tried.whole left n tried.keeps each in
+    let counts = counts_of _ left n tried.keeps each in
     let listed : Listed = record { all = c.no_fails.result.all.items; reads = c.no_fails.result.reads.items; writes = c.no_fails.result.writes.items; syncs = c.no_fails.result.syncs.items } in
     (subst (λ (d : Memory). IsKept s.site s.sent.items c.push_reserved.new.self.items s.issued.items (Down d)) (sym c.new.ensures.made)
     (crash_kept s.site s.sent.items s.named.items s.issued.items s.recorder c.self.invariant c.in-Some-bytes_while_up.ensures.0 c.args.k c.args.minute c.args.call c.in-Some.request.now message c.push_reserved.new.self.items named c.args.image left crashes listed n counts)).world
