@@ -10,5 +10,6 @@ untold faults = record {
   spare = end_of_disk;
   moment = last_moment;
   may_leave = λ _ _. ⊥;
+  named = λ _ _. None;
   faults = faults;
 }

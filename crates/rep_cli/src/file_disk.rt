@@ -1,4 +1,4 @@
-ghost use Rattle.std.specs.Prelude.{◌≡◌, ◌≢◌, ◌≤◌, OnErr, IsErr};
+ghost use Rattle.std.specs.Prelude.{◌≡◌, ◌≢◌, ◌≤◌, OnErr, OnOk, IsErr};
 ghost use Rattle.std.specs.Io.{ReadsAtMost};
 ghost use Rattle.rep_io.specs.Causes.{Rose};
 ghost use Rattle.rep_cli.specs.Untold.{untold};
@@ -40,12 +40,13 @@ impl<'a, R: Files<File = File>> FileDisk<'a, R> {
         }
     }
 
-    /// What the system told of a call: a fault is counted.
+    /// What the system told of a call: a fault is counted, and nothing else is.
     fn told<T>(&mut self, done: io::Result<T>) -> Result<T, Failed>
         ensures done { (value : T) → done ≡ Ok value → result ≡ Ok value }
         ensures failed { OnErr done (IsErr result) }
         ensures later { self.old.faults ≤ self.new.faults }
         ensures rose { OnErr result (Rose self.old.faults self.new.faults) }
+        ensures kept { OnOk result (self.new.faults ≡ self.old.faults) }
     {
         match done {
             Ok(value) => Ok(value),

@@ -202,3 +202,11 @@ sink_failed events w ended told old new first before now status since cause c is
       | inl by_lines ↦ let rose = cause by_lines in rose-wider first first before now (omega arith) (omega arith) rose
       | inr by_counts ↦ rose-wider first before c.middle now since done by_counts
     ]
+
+-- where the source's fault isn't told, the lines didn't end by one
+pub source_kept : (events : ℕ) (w : World) (ended told : DrillEnding) (old new : Option (List ℕ)) (before now : ℕ) (Kept : Type 0) (status : ℕ)
+    → ((ended ≡ SourceFault → ⊥) → Kept) → Concludes events w ended old new before now told → status ≡ status_of told → (status ≡ 4 → ⊥) → Kept
+source_kept events w ended told old new before now Kept status kept c is other =
+    kept (λ source.
+    let not_whole : IsWhole ended → ⊥ = λ whole. subst IsWhole source whole in
+    other (is ∙ ap status_of ((c.counts.other not_whole).1 ∙ source)))

@@ -4,3 +4,4 @@ pub mod Lines
 pub mod NextLine
 pub mod Plays
 pub mod Endings
+pub mod Completeness

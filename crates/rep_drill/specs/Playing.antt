@@ -13,6 +13,7 @@ use Rattle.rep_site.specs.declared.site.Site.{Site}
 use Rattle.rep_world.specs.World.{World, IsWorld}
 use Rattle.rep_world.specs.Events.{Counts, GoesOn, IsNewWorld, NamesUnsent, Steps}
 use Rattle.rep_world.specs.declared.event.Event.{Event}
+use Rattle.rep_world.specs.declared.event.Event.TheVariants.{Send, Deliver, Fail, Crash, Rest, Reopen, Extract}
 use Rattle.rep_world.specs.declared.event.Seen.{Seen}
 use Rattle.rep_drill.specs.Schedule.{SaysEvent}
 use Rattle.rep_drill.specs.Saying.{SeesRefusal, drill_text, schedule_fault, seen_text}
@@ -284,3 +285,36 @@ pub record BeginsNot {S : Type 0} (old new : S) (out_old out_new : Option (List 
   pub front : IsFront put (fault_text 8)
   pub whole : (Failed → ⊥) → put ≡ fault_text 8
   pub status_is : status ≡ 8
+
+-- Completeness
+
+-- the message of this number was among so many
+abbrev pub IsAmong : ℕ → ℕ → Type 0
+IsAmong sent k = (1 ≤ k) × (k ≤ sent)
+
+-- the event names no message but those, if it names one
+abbrev pub NamesOnly : ℕ → Event → Type 0
+NamesOnly sent (Send request) = Unit {0}
+NamesOnly sent (Deliver k minute lost) = IsAmong sent k
+NamesOnly sent (Fail k minute call) = IsAmong sent k
+NamesOnly sent (Crash k minute call image) = IsAmong sent k
+NamesOnly sent (Rest image) = Unit {0}
+NamesOnly sent Reopen = Unit {0}
+NamesOnly sent (Extract from to minute) = Unit {0}
+
+-- how many messages were sent after the event, of so many before it
+abbrev pub sent_after : ℕ → Event → ℕ
+sent_after sent (Send request) = suc sent
+sent_after sent _ = sent
+
+-- lines that can be played, one after another, where so many messages were sent before
+abbrev pub CanPlayLines : ℕ → List (List ℕ) → Type 0
+CanPlayLines sent [] = Unit {0}
+CanPlayLines sent (line ∷ lines) =
+    (event : Event) × SaysEvent line event × (length line ≤ longest_line) × NamesOnly sent event
+    × CanPlayLines (sent_after sent event) lines
+
+-- no line of the text is refused, and it isn't too long
+pub record CanPlay (text : List ℕ) : Type 0 where
+  pub short : length text ≤ longest_text
+  pub lines : CanPlayLines 0 (lines_of text)

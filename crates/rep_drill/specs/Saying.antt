@@ -1,5 +1,5 @@
 -- What is said of a drill: this project's own. LF ends each line.
-use Rattle.std.specs.Prelude.{◌≡◌, ℕ, List, [], ◌∷◌, ◌++◌, codes}
+use Rattle.std.specs.Prelude.{ℕ, List, [], ◌∷◌, codes}
 use Rattle.std.specs.List.{concat}
 use Rattle.rep_report.specs.Report.{barred}
 use Rattle.rep_wire.specs.Reply.{reply_text}

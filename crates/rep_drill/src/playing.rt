@@ -1,5 +1,5 @@
 //! The lines of a schedule, played one after another.
-ghost use Rattle.std.specs.Prelude.{◌≡◌, ◌⊎◌, ◌≤◌, ◌↔◌, length, Err, IfOk, IsTrue, MatchResult};
+ghost use Rattle.std.specs.Prelude.{◌≡◌, ◌≢◌, ◌⊎◌, ◌≤◌, ◌↔◌, ℕ, List, [], Some, length, Err, IfOk, IsTrue, MatchResult};
 ghost use Rattle.rep_io.specs.Causes.{Rose};
 ghost use Rattle.rep_io.specs.Lines.{longest_line};
 ghost use Rattle.rep_io.specs.Cutter.{fresh};
@@ -7,7 +7,7 @@ ghost use Rattle.rep_site.specs.declared.site.Site.{Site as TheSite};
 ghost use Rattle.rep_report.specs.Saying.{SaysLine};
 ghost use Rattle.rep_site.specs.Reading.{IsSiteText};
 ghost use Rattle.rep_world.specs.Events.{IsNewWorld};
-ghost use Rattle.rep_drill.specs.Playing.{BeginsNot, Concludes, Drills, DrillsOver, EndsPlayed, IsWhole, PlaysNext, PlaysOne, PlaysOut, SaysCounts, SaysIts, StopsAtLine, closing_text, sample_text};
+ghost use Rattle.rep_drill.specs.Playing.{BeginsNot, CanPlay, Concludes, Drills, DrillsOver, EndsPlayed, IsWhole, PlaysNext, PlaysOne, PlaysOut, SaysCounts, SaysIts, StopsAtLine, closing_text, sample_text};
 
 use crate::ending::DrillEnding;
 use crate::saying::{drill_line, say_seen, schedule_fault_line, sees_refusal};
@@ -56,6 +56,12 @@ pub fn drill<S: Source, K: Sink>(alloc: Global, schedule: S, out: K) -> DrillDon
         (Rose (K.faults out) (K.faults result.out)) result.status }
     ensures source_fault { result.status ≡ 4 → Rose (S.faults schedule) (S.faults result.schedule) }
     ensures sink_fault { result.status ≡ 5 → Rose (K.faults out) (K.faults result.out) }
+    // No fault is passed over. One of the output at the counts is told in the place of another.
+    ensures no_source_fault { result.status ≢ 4 → result.status ≢ 5 → S.faults result.schedule ≡ S.faults schedule }
+    // Where no line is refused and nothing of the outside fails, all are played, unless memory is short.
+    ensures complete { (text : List ℕ) → S.left schedule ≡ Some text → CanPlay text
+        → ¬ Rose (S.faults schedule) (S.faults result.schedule) → ¬ Rose (K.faults out) (K.faults result.out)
+        → (result.status ≡ 0) ⊎ (result.status ≡ 1) ⊎ (result.status ≡ 8) }
 {
     match sample_world(alloc) {
         Ok(world) => drill_over(world, schedule, out),
@@ -77,6 +83,10 @@ fn drill_over<S: Source, K: Sink>(world: World, schedule: S, out: K) -> DrillDon
         (K.faults result.out) result.status }
     ensures source_fault { result.status ≡ 4 → Rose (S.faults schedule) (S.faults result.schedule) }
     ensures sink_fault { result.status ≡ 5 → Rose (K.faults out) (K.faults result.out) }
+    ensures no_source_fault { result.status ≢ 4 → S.faults result.schedule ≡ S.faults schedule }
+    ensures complete { (text : List ℕ) → S.left schedule ≡ Some text → world.sent ≡ [] → CanPlay text
+        → ¬ Rose (S.faults schedule) (S.faults result.schedule) → ¬ Rose (K.faults out) (K.faults result.out)
+        → (result.status ≡ 0) ⊎ (result.status ≡ 1) ⊎ (result.status ≡ 8) }
 {
     let mut world = world;
     let mut lines = lines_of(schedule);
@@ -99,6 +109,7 @@ fn play_all<S: Source, K: Sink>(
     ensures plays { PlaysOut S.left lines.old world.old world.new (K.written out.old) (K.written out.new) result.0 result.1 }
     ensures source_later { S.faults lines.old.source ≤ S.faults lines.new.source }
     ensures source_fault { result.0 ≡ DrillEnding.SourceFault → Rose (S.faults lines.old.source) (S.faults lines.new.source) }
+    ensures no_source_fault { result.0 ≢ DrillEnding.SourceFault → S.faults lines.new.source ≡ S.faults lines.old.source }
     ensures sink_later { K.faults out.old ≤ K.faults out.new }
     ensures sink_fault { result.0 ≡ DrillEnding.SinkFault → Rose (K.faults out.old) (K.faults out.new) }
 {
@@ -145,6 +156,8 @@ fn play_next<S: Source, K: Sink>(
     ensures source_later { S.faults lines.old.source ≤ S.faults lines.new.source }
     ensures source_fault { result ≡ Err DrillEnding.SourceFault
         → Rose (S.faults lines.old.source) (S.faults lines.new.source) }
+    ensures no_source_fault { result ≢ Err DrillEnding.SourceFault
+        → S.faults lines.new.source ≡ S.faults lines.old.source }
     ensures sink_later { K.faults out.old ≤ K.faults out.new }
     ensures sink_fault { result ≡ Err DrillEnding.SinkFault → Rose (K.faults out.old) (K.faults out.new) }
 {

@@ -70,14 +70,14 @@ module _ {C : Type 0} (readings : C → Option (List ℕ)) (faults : C → ℕ) 
               (subst (λ (h : List Entry). IsReply core.limit h q reply) history (replied core.entries (Stands-own core)));
         };
         zone = refl;
-        later = omega arith;
+        kept = refl;
       }
 
   -- a request was recorded at a reading of the clock
   pub taken : (state : State C) (core room new : Kept) (clock now : C) (zone : ℤ) (minute : ℕ) (stamp : Moment) (reply : Reply)
       → record { history = core.entries; clock = clock; zone = zone } ≡ state → core.limit ≡ last_nsr
       → IsVerdict last_nsr state.history q Fresh → ((h : List Entry) → Stands core h ↔ Stands room h) → room.limit ≡ core.limit
-      → IsReading minute → readings now ≡ append_known (readings clock) (minute ∷ []) → faults clock ≤ faults now → stamp ≡ moment_at minute zone
+      → IsReading minute → readings now ≡ append_known (readings clock) (minute ∷ []) → faults now ≡ faults clock → stamp ≡ moment_at minute zone
       → ((h : List Entry) → Stands room h → Stands new (recorded_after h q stamp)) → new.limit ≡ room.limit
       → ((h : List Entry) → Stands new h → IsReply new.limit h q reply)
       → Served readings faults state q reply (record { history = new.entries; clock = now; zone = zone })
@@ -101,7 +101,7 @@ module _ {C : Type 0} (readings : C → Option (List ℕ)) (faults : C → ℕ) 
           replies = subst (λ (n : ℕ). IsReply n new.entries q reply) limits (replied new.entries (Stands-own new));
         };
         zone = zones;
-        later = subst (λ (s : State C). faults s.clock ≤ faults now) is later;
+        kept = subst (λ (s : State C). faults now ≡ faults s.clock) is later;
       }
 
   -- the clock failed before a request was recorded
@@ -137,7 +137,7 @@ module _ {C : Type 0} (readings : C → Option (List ℕ)) (faults : C → ℕ) 
   abbrev pub ticked : State C
   ticked = record { history = h; clock = now; zone = zone }
 
-  pub takes_of : (minute front : ℕ) (text : List ℕ) → IsReading minute → readings now ≡ append_known (readings clock) (minute ∷ []) → faults clock ≤ faults now
+  pub takes_of : (minute front : ℕ) (text : List ℕ) → IsReading minute → readings now ≡ append_known (readings clock) (minute ∷ []) → faults now ≡ faults clock
       → front ≡ length h → IsExtraction zone h from to minute (length text) text → Takes readings faults state from to (due_by front text) ticked
   takes_of minute front text is_reading tick later count is_due = record {
     minute = minute;
@@ -145,7 +145,7 @@ module _ {C : Type 0} (readings : C → Option (List ℕ)) (faults : C → ℕ) 
     readings_are = tick ∙ ap (λ (s : State C). append_known (readings s.clock) (minute ∷ [])) is;
     history = ap (λ (s : State C). s.history) is;
     zone = ap (λ (s : State C). s.zone) is;
-    later = subst (λ (s : State C). faults s.clock ≤ faults now) is later;
+    kept = subst (λ (s : State C). faults now ≡ faults s.clock) is later;
     front = count ∙ ap (λ (s : State C). length s.history) is;
     is_due = subst (λ (s : State C). IsExtraction s.zone s.history from to minute (length text) text) is is_due;
   }

@@ -1,5 +1,6 @@
 -- how a lane that is printed goes on behind line 2
-use Rattle.std.proofs.Common.{◌≡◌, ◌≢◌, ℕ, zero, suc, ◌+◌, ◌≤◌, inl, inr, List, [], ◌∷◌, ◌++◌, length, take, Option, Ok, refl, sym, ap, subst, ◌∙◌, append_assoc, length-append, arith}
+use Rattle.std.proofs.Common.{◌≡◌, ◌≢◌, ℕ, zero, suc, ◌+◌, ◌≤◌, inl, inr, List, [], ◌∷◌, ◌++◌, length, take, Option, None, Some, Ok, refl, sym, ap, subst, ◌∙◌, append_assoc, length-append, arith}
+use Rattle.std.specs.Prelude.{IfSome}
 use Rattle.std.specs.List.{concat}
 use Rattle.std.specs.Io.KnownBytes.{append_known}
 use Rattle.std.proofs.lemmas.List.{take_all}
@@ -18,11 +19,11 @@ use Rattle.rep_lane.specs.declared.lane.End.TheVariants as end
 use Rattle.rep_lane.specs.declared.lane.Tally.{Tally}
 use Rattle.rep_lane.proofs.AnswerLemmas.{replies_from-length}
 use Rattle.rep_print.specs.Desk.{State, steps_by}
-use Rattle.rep_print.specs.Printing.{IsOperatorHead, Run, IsRunOf}
-use Rattle.rep_print.specs.Steps.{Begins, ending_of, count_first, HasAnswers, HasReplied, EndsLane, Laned, IsHeaded, GoesOn}
+use Rattle.rep_print.specs.Printing.{IsCutOff, IsNextLineOf, IsOperatorHead, IsWholeRunOf, Run, IsRunOf}
+use Rattle.rep_print.specs.Steps.{Begins, ending_of, count_first, HasAnswers, HasReplied, EndsLane, OfLane, Laned, IsHeaded, GoesOn}
 use Rattle.rep_print.specs.declared.ending.PrintEnding.{PrintEnding}
 use Rattle.rep_print.specs.declared.ending.PrintEnding.TheVariants.{Served}
-use Rattle.rep_print.proofs.LaneLemmas.{ClockMoves, rose-wider, come, ran, still, IsStill, never_nil}
+use Rattle.rep_print.proofs.LaneLemmas.{ClockMoves, if_some, rose-wider, come, ran, still, IsStill, never_nil}
 use Rattle.rep_print.proofs.StopLemmas.{untimed_still}
 use Rattle.rep_print.proofs.EmployerLemmas.{run_employer}
 use Rattle.rep_print.proofs.GoneLemmas.{LeavesDesk, IsWritten, Gone, gone}
@@ -57,18 +58,21 @@ module _ {C : Type 0} (readings : C → Option (List ℕ)) (faults : C → ℕ) 
   moves_same : new ≡ desk → faults desk.clock ≤ faults new.clock
   moves_same same = let is : faults new.clock ≡ faults desk.clock = ap (λ (s : State C). faults s.clock) same in omega arith
 
+  kept_same : new ≡ desk → faults new.clock ≡ faults desk.clock
+  kept_same same = ap (λ (s : State C). faults s.clock) same
+
   leaves_clock : (e : End) (refused : ℕ) → LeavesDesk readings faults head desk next new e
       → ClockMoves (faults desk.clock) (faults new.clock) (Served (ending_of e refused))
-  leaves_clock end.Done zero l = (moves_same l.1, λ same. absurd cc)
-  leaves_clock end.Done (suc n) l = (moves_same l.1, λ same. absurd cc)
-  leaves_clock end.SourceFault refused l = (moves_same l.1, λ same. absurd cc)
-  leaves_clock end.InputLimit refused l = (moves_same l.1, λ same. absurd cc)
-  leaves_clock end.SinkFault refused l = (moves_same l.1, λ same. absurd cc)
+  leaves_clock end.Done zero l = (moves_same l.1, λ same. absurd cc, λ other. kept_same l.1)
+  leaves_clock end.Done (suc n) l = (moves_same l.1, λ same. absurd cc, λ other. kept_same l.1)
+  leaves_clock end.SourceFault refused l = (moves_same l.1, λ same. absurd cc, λ other. kept_same l.1)
+  leaves_clock end.InputLimit refused l = (moves_same l.1, λ same. absurd cc, λ other. kept_same l.1)
+  leaves_clock end.SinkFault refused l = (moves_same l.1, λ same. absurd cc, λ other. kept_same l.1)
   leaves_clock end.Stopped refused l = absurd l
   leaves_clock end.DeviceFault refused l = absurd l
-  leaves_clock end.ClockFault refused (inl l) = (l.failed.later, λ same. l.failed.cause)
-  leaves_clock end.ClockFault refused (inr l) = (l.failed.later, λ same. l.failed.cause)
-  leaves_clock end.OutOfMemory refused l = (moves_same l.failed.1, λ same. absurd cc)
+  leaves_clock end.ClockFault refused (inl l) = (l.failed.later, λ same. l.failed.cause, λ other. absurd (other refl))
+  leaves_clock end.ClockFault refused (inr l) = (l.failed.later, λ same. l.failed.cause, λ other. absurd (other refl))
+  leaves_clock end.OutOfMemory refused l = (moves_same l.failed.1, λ same. absurd cc, λ other. kept_same l.failed.1)
 
 -- the replies, line 2's among them
 module _ (a : LineAnswer) (answers : List LineAnswer) (whole : ℕ) (next : List ℕ) where
@@ -113,88 +117,116 @@ module _ (a : LineAnswer) (answers : List LineAnswer) (whole : ℕ) (next : List
 module _ {S C : Type 0} (left : S → Option (List ℕ)) (readings : C → Option (List ℕ)) (faults : C → ℕ) (head : LaneHead) (kind : Kind) (c_old c_mid : Cutter S)
     (old mid new : State C) (out_old out_mid out_new : Option (List ℕ)) (tally : Tally) (ended : PrintEnding) (empty : old.history ≡ [])
     (b : Begins left readings faults head c_old c_mid old mid out_old out_mid (Ok kind)) where
-  -- what the text says of the lines behind line 2
-  module _ (lines : List (List ℕ)) (answers : List LineAnswer) (desk : State C) (at : List (List ℕ)) (text first : List ℕ) (rest : List (List ℕ))
-      (headed : IsOperatorHead head first) (answered : AnswersLines (steps_by readings faults) head mid lines answers desk)
-      (are : lines_of text ≡ (first ∷ b.line ∷ []) ++ (lines ++ at) ++ rest) (kept : IsStill readings faults desk new) where
+  -- what a text that is told says of the lines behind line 2
+  pub record Reads (text : List ℕ) (lines at : List (List ℕ)) (e : End) : Type 0 where
+    pub first : List ℕ
+    pub headed : IsOperatorHead head first
+    pub rest : List (List ℕ)
+    pub are : lines_of text ≡ (first ∷ b.line ∷ []) ++ (lines ++ at) ++ rest
+    pub ends : EndsText text (length (first ∷ b.line ∷ []) + length (lines ++ at)) rest e
+
+  module _ (lines : List (List ℕ)) (answers : List LineAnswer) (desk : State C) (at : List (List ℕ))
+      (answered : AnswersLines (steps_by readings faults) head mid lines answers desk) (kept : IsStill readings faults desk new) where
     abbrev pub run_here : Run old.zone
     run_here = (ran readings faults head old (b.line ∷ lines) (b.answers.1.a ∷ answers) desk new empty (mid, b.answers.1.answers, answered) b.answers.0 kept).run
 
-    pub lines_here : lines_of text ≡ first ∷ (b.line ∷ lines) ++ (at ++ rest)
-    lines_here = are ∙ ap (λ (x : List (List ℕ)). first ∷ b.line ∷ x) (append_assoc lines at rest)
-
-    abbrev pub of_text : IsRunOf text run_here
-    of_text = record { first = first; headed = headed; behind = at ++ rest; lines = lines_here }
+    abbrev pub of_text : (e : End) (text : List ℕ) → Reads text lines at e → IsRunOf text run_here
+    of_text e text t = record {
+      first = t.first;
+      headed = t.headed;
+      behind = at ++ t.rest;
+      lines = t.are ∙ ap (λ (x : List (List ℕ)). t.first ∷ b.line ∷ x) (append_assoc lines at t.rest);
+    }
 
     taken : length (lines ++ at) ≡ length lines + length at
     taken = length-append lines at
 
-    pub text_ends : (e : End) (refused : ℕ) → LeavesDesk readings faults head desk at new e
-        → EndsText text (length (first ∷ b.line ∷ []) + length (lines ++ at)) rest e → EndsLane text run_here (Served (ending_of e refused))
-    text_ends end.Done zero l t = record {
-      of_text = of_text;
-      none_behind = ap (λ (x : List (List ℕ)). x ++ rest) l.0 ∙ t.0;
-      some = never_nil b.line lines;
-      short = t.1;
+    whole_here : at ≡ [] → (text : List ℕ) → Reads text lines at end.Done → IsWholeRunOf text run_here
+    whole_here none text t = record {
+      of_text = of_text end.Done text t;
+      none_behind = ap (λ (x : List (List ℕ)). x ++ t.rest) none ∙ t.ends.0;
+      short = t.ends.1;
     }
-    text_ends end.Done (suc n) l t = record {
-      of_text = of_text;
-      none_behind = ap (λ (x : List (List ℕ)). x ++ rest) l.0 ∙ t.0;
+
+    cut_here : at ≡ [] → (text : List ℕ) → Reads text lines at end.InputLimit → IsCutOff text run_here
+    cut_here is text t =
+        let none : length at ≡ 0 = ap length is in
+        let many = taken in
+        let over = t.ends.1 in
+        record { long = t.ends.0; read = inr (of_text end.InputLimit text t, omega arith) }
+
+    next_timed : (line : List ℕ) → at ≡ line ∷ [] → (text : List ℕ) → Reads text lines at end.ClockFault → IsNextLineOf text run_here line
+    next_timed line is text t =
+        let one : length at ≡ 1 = ap length is in
+        let many = taken in
+        record {
+          of_text = of_text end.ClockFault text t;
+          rest = t.rest;
+          next = ap (λ (x : List (List ℕ)). x ++ t.rest) is;
+          within = subst (λ (n : ℕ). IsWithin n text) (omega arith) t.ends;
+        }
+
+    next_kept : (line : List ℕ) → at ≡ line ∷ [] → (text : List ℕ) → Reads text lines at end.OutOfMemory → IsNextLineOf text run_here line
+    next_kept line is text t =
+        let one : length at ≡ 1 = ap length is in
+        let many = taken in
+        record {
+          of_text = of_text end.OutOfMemory text t;
+          rest = t.rest;
+          next = ap (λ (x : List (List ℕ)). x ++ t.rest) is;
+          within = subst (λ (n : ℕ). IsWithin n text) (omega arith) t.ends;
+        }
+
+    pub text_ends : (text : Option (List ℕ)) (e : End) (refused : ℕ) → LeavesDesk readings faults head desk at new e
+        → IfSome text (λ t. Reads t lines at e) → EndsLane text run_here (Served (ending_of e refused))
+    text_ends text end.Done zero l is = record {
       some = never_nil b.line lines;
-      short = t.1;
+      whole = if_some (λ t. Reads t lines at end.Done) (λ t. IsWholeRunOf t run_here) text (whole_here l.0) is;
     }
-    text_ends end.SourceFault refused l t = tt
-    text_ends end.InputLimit refused l t =
-        let none : length at ≡ 0 = ap length l.0 in
-        let many = taken in
-        let over = t.1 in
-        record { long = t.0; read = inr (of_text, omega arith) }
-    text_ends end.SinkFault refused l t = tt
-    text_ends end.Stopped refused l t = absurd l
-    text_ends end.DeviceFault refused l t = absurd l
-    text_ends end.ClockFault refused (inl l) t =
-        let one : length at ≡ 1 = ap length l.next_is in
-        let many = taken in
+    text_ends text end.Done (suc n) l is = record {
+      some = never_nil b.line lines;
+      whole = if_some (λ t. Reads t lines at end.Done) (λ t. IsWholeRunOf t run_here) text (whole_here l.0) is;
+    }
+    text_ends text end.SourceFault refused l is = tt
+    text_ends text end.InputLimit refused l is = if_some (λ t. Reads t lines at end.InputLimit) (λ t. IsCutOff t run_here) text (cut_here l.0) is
+    text_ends text end.SinkFault refused l is = tt
+    text_ends text end.Stopped refused l is = absurd l
+    text_ends text end.DeviceFault refused l is = absurd l
+    text_ends text end.ClockFault refused (inl l) is =
         inl (record {
-          of_text = of_text;
           line = l.line;
-          rest = rest;
-          next = ap (λ (x : List (List ℕ)). x ++ rest) l.next_is;
-          within = subst (λ (n : ℕ). IsWithin n text) (omega arith) t;
+          next = if_some (λ t. Reads t lines at end.ClockFault) (λ t. IsNextLineOf t run_here l.line) text (next_timed l.line l.next_is) is;
           request = l.request;
           ordered = l.ordered;
           fresh = l.failed.fresh;
           begins = b.answers.0;
         })
-    text_ends end.ClockFault refused (inr l) t =
-        let one : length at ≡ 1 = ap length l.next_is in
-        let many = taken in
+    text_ends text end.ClockFault refused (inr l) is =
         inr (record {
-          of_text = of_text;
           line = l.line;
-          rest = rest;
-          next = ap (λ (x : List (List ℕ)). x ++ rest) l.next_is;
-          within = subst (λ (n : ℕ). IsWithin n text) (omega arith) t;
+          next = if_some (λ t. Reads t lines at end.ClockFault) (λ t. IsNextLineOf t run_here l.line) text (next_timed l.line l.next_is) is;
           seq = l.seq;
           from = l.from;
           to = l.to;
           ordered = l.ordered;
           some = never_nil b.line lines;
         })
-    text_ends end.OutOfMemory refused l t =
-        let one : length at ≡ 1 = ap length l.next_is in
-        let many = taken in
-        record {
-          of_text = of_text;
-          line = l.line;
-          rest = rest;
-          next = ap (λ (x : List (List ℕ)). x ++ rest) l.next_is;
-          within = subst (λ (n : ℕ). IsWithin n text) (omega arith) t;
-          request = l.request;
-          ordered = l.ordered;
-          fresh = l.failed.0;
-          begins = b.answers.0;
-        }
+    text_ends text end.OutOfMemory refused l is = record {
+      line = l.line;
+      next = if_some (λ t. Reads t lines at end.OutOfMemory) (λ t. IsNextLineOf t run_here l.line) text (next_kept l.line l.next_is) is;
+      request = l.request;
+      ordered = l.ordered;
+      fresh = l.failed.0;
+      begins = b.answers.0;
+    }
+
+    pub lane_ends : (text : Option (List ℕ)) (e : End) → LeavesDesk readings faults head desk at new e → ended ≡ Served (ending_of e tally.refused)
+        → IfSome text (λ t. Reads t lines at e) → OfLane readings old new (b.answers.1.a ∷ answers) ended text
+    lane_ends text e l is reads = record {
+      ran = ran readings faults head old (b.line ∷ lines) (b.answers.1.a ∷ answers) desk new empty (mid, b.answers.1.answers, answered) b.answers.0 kept;
+      in_order = λ some. if_some (λ t. Reads t lines at e) (λ t. IsRunOf t run_here) text (of_text e) reads;
+      ends = subst (λ (x : PrintEnding). EndsLane text run_here x) (sym is) (text_ends text e tally.refused l reads);
+    }
 
   -- where the lane went on
   goes : (rest : Tally) (e : End) → Runs left (steps_by readings faults) head 3 c_mid mid new out_mid out_new rest e
@@ -204,6 +236,16 @@ module _ {S C : Type 0} (left : S → Option (List ℕ)) (readings : C → Optio
       let answered : AnswersLines (steps_by readings faults) head old (b.line ∷ r.lines) (a ∷ r.answers) r.desk = (mid, b.answers.1.answers, r.answered) in
       let here = ran readings faults head old (b.line ∷ r.lines) (a ∷ r.answers) r.desk r.desk empty answered b.answers.0 (still readings faults r.desk r.desk refl) in
       gone left readings faults head 3 c_mid mid new out_mid out_new rest e r (run_employer here.run (never_nil a r.answers))
+
+  of_told : (rest : Tally) (e : End) (r : Gone left readings faults head 3 c_mid mid new out_mid out_new rest e) → IsStill readings faults r.desk new
+      → ended ≡ Served (ending_of e tally.refused) → (text : Option (List ℕ)) → IfSome text (IsHeaded left head c_old)
+      → OfLane readings old new (b.answers.1.a ∷ r.answers) ended text
+  of_told rest e r kept is None told = lane_ends r.lines r.answers r.desk r.next r.answered kept None e r.leaves is tt
+  of_told rest e r kept is (Some text) headed =
+      let n = b.text text (headed.0 ∷ []) headed.2 in
+      let t = r.text text (headed.0 ∷ b.line ∷ []) n.read in
+      lane_ends t.lines r.answers r.desk r.next t.answered kept (Some text) e r.leaves is
+      (record { first = headed.0; headed = headed.1; rest = t.takes.rest; are = t.takes.lines; ends = t.takes.ends })
 
   pub gone_on : GoesOn left readings faults head kind c_mid mid new out_mid out_new tally ended
       → Laned readings old new out_old out_new tally ended (IsHeaded left head c_old)
@@ -220,7 +262,6 @@ module _ {S C : Type 0} (left : S → Option (List ℕ)) (readings : C → Optio
       record {
         zone = kept.zone ∙ (come readings faults head old (b.line ∷ r.lines) (a ∷ r.answers) r.desk answered).0;
         answers = a ∷ r.answers;
-        some = ran readings faults head old (b.line ∷ r.lines) (a ∷ r.answers) r.desk new empty answered b.answers.0 kept;
         whole = suc r.whole;
         next = r.put;
         said = r.said
@@ -231,15 +272,7 @@ module _ {S C : Type 0} (left : S → Option (List ℕ)) (readings : C → Optio
         tally_is = counted;
         has = subst (λ (x : PrintEnding). HasAnswers (a ∷ r.answers) x) (sym g.4)
             (has_on a r.answers r.whole r.put readings faults head r.desk new r.next e tally r.leaves r.written counted);
-        text = λ text headed.
-            let n = b.text text (headed.0 ∷ []) headed.2 in
-            let t = r.text text (headed.0 ∷ b.line ∷ []) n.read in
-            record {
-              ran = ran readings faults head old (b.line ∷ t.lines) (a ∷ r.answers) r.desk new empty (mid, b.answers.1.answers, t.answered) b.answers.0 kept;
-              in_order = λ some. of_text t.lines r.answers r.desk r.next text headed.0 t.takes.rest headed.1 t.answered t.takes.lines kept;
-              ends = subst (λ (x : PrintEnding). EndsLane text (run_here t.lines r.answers r.desk r.next text headed.0 t.takes.rest headed.1 t.answered t.takes.lines kept) x) (sym g.4)
-                  (text_ends t.lines r.answers r.desk r.next text headed.0 t.takes.rest headed.1 t.answered t.takes.lines kept e tally.refused r.leaves t.takes.ends);
-            };
+        of_lane = of_told rest e r kept g.4;
       }
 
   pub clock_goes : GoesOn left readings faults head kind c_mid mid new out_mid out_new tally ended → ClockMoves (faults old.clock) (faults new.clock) ended
@@ -247,7 +280,11 @@ module _ {S C : Type 0} (left : S → Option (List ℕ)) (readings : C → Optio
       let r = goes g.0 g.1 g.2 in
       let a = b.answers.1.a in
       let answered : AnswersLines (steps_by readings faults) head old (b.line ∷ r.lines) (a ∷ r.answers) r.desk = (mid, b.answers.1.answers, r.answered) in
-      let before : faults old.clock ≤ faults r.desk.clock = (come readings faults head old (b.line ∷ r.lines) (a ∷ r.answers) r.desk answered).1 in
+      let is : faults r.desk.clock ≡ faults old.clock = (come readings faults head old (b.line ∷ r.lines) (a ∷ r.answers) r.desk answered).1 in
+      let before : faults old.clock ≤ faults r.desk.clock = omega arith in
       let moves = leaves_clock readings faults head r.desk new r.next g.1 tally.refused r.leaves in
-      let later : faults r.desk.clock ≤ faults new.clock = moves.0 in
-      (omega arith, λ same. rose-wider (faults old.clock) (faults r.desk.clock) (faults new.clock) (faults new.clock) before (omega arith) (moves.1 (sym g.4 ∙ same)))
+      let later : faults r.desk.clock ≤ faults new.clock = moves.0 in (
+        omega arith,
+        λ same. rose-wider (faults old.clock) (faults r.desk.clock) (faults new.clock) (faults new.clock) before (omega arith) (moves.1 (sym g.4 ∙ same)),
+        λ other. moves.2 (λ same. other (g.4 ∙ same)) ∙ is,
+      )

@@ -1,5 +1,6 @@
 -- how the lines of a lane that is printed go on one after another
-use Rattle.std.proofs.Common.{◌≡◌, ◌≢◌, ℕ, suc, ◌<◌, ◌≤◌, inl, inr, List, [], ◌∷◌, ◌++◌, length, take, Option, Result, Ok, Err, ℤ, refl, sym, ap, subst, ◌∙◌, append_assoc, append-nil, arith}
+use Rattle.std.proofs.Common.{◌≡◌, ◌≢◌, ℕ, suc, ◌<◌, ◌≤◌, inl, inr, List, [], ◌∷◌, ◌++◌, length, take, Option, None, Some, Result, Ok, Err, ℤ, refl, sym, ap, subst, ◌∙◌, append_assoc, append-nil, arith}
+use Rattle.std.specs.Prelude.{IfSome}
 use Rattle.std.specs.List.{concat}
 use Rattle.rep_io.specs.Causes.{Rose}
 use Rattle.rep_io.specs.Lines.{lines_of, longest_line, longest_text}
@@ -23,7 +24,7 @@ use Rattle.rep_lane.specs.declared.lane.Tally.{Tally}
 use Rattle.rep_lane.proofs.ServingLemmas.{lanes_are_served}
 use Rattle.rep_print.specs.Desk.{State, steps_by, Served as WasServed}
 use Rattle.rep_print.specs.Extraction.{IsExtraction, rules_at}
-use Rattle.rep_print.specs.Printing.{BeginsByEmployer, IsEmployerLine, first_line}
+use Rattle.rep_print.specs.Printing.{BeginsByEmployer, IsCutOff, IsEmployerLine, LacksOperatorHead, first_line}
 use Rattle.rep_print.specs.Steps.{EndsAtHead, HeadsBy, AnswersFirst, FailsAtFirst, IsNext, LacksNext, Begins, ending_of, Ran, HasAnswers, EndsLane, Laned}
 use Rattle.rep_print.proofs.EmployerLemmas.{no_extraction}
 use Rattle.rep_print.specs.declared.ending.PrintEnding.{PrintEnding}
@@ -37,15 +38,15 @@ pub rose-wider : (a b c d : ℕ) → a ≤ b → c ≤ d → Rose b c → Rose a
 rose-wider a b c d low high rose = omega arith
 
 module _ {C : Type 0} (readings : C → Option (List ℕ)) (faults : C → ℕ) where
-  -- how far a desk has come from this one: at the same offset, and its clock's count has not fallen
+  -- how far a desk has come from this one: at the same offset, and its clock's count is the same
   abbrev pub HasCome : State C → State C → Type 0
-  HasCome old s = (s.zone ≡ old.zone) × (faults old.clock ≤ faults s.clock)
+  HasCome old s = (s.zone ≡ old.zone) × (faults s.clock ≡ faults old.clock)
 
   pub serving : (start : State C) → IsServing (steps_by readings faults) (rules_at start.zone) (λ (s : State C). s.history) (λ (s : State C). readings s.clock) (HasCome start)
   serving start = record {
     serves = λ old new q reply holds asked.
         let served : WasServed readings faults old q reply new = asked in (
-          (served.zone ∙ holds.0, (let late = holds.1 in let later = served.later in omega arith)),
+          (served.zone ∙ holds.0, served.kept ∙ holds.1),
           (
             served.given,
             served.readings_are,
@@ -53,7 +54,7 @@ module _ {C : Type 0} (readings : C → Option (List ℕ)) (faults : C → ℕ) 
           ),
         );
     extracts = λ old new from to x holds takes. (
-      (takes.zone ∙ holds.0, (let late = holds.1 in let later = takes.later in omega arith)),
+      (takes.zone ∙ holds.0, takes.kept ∙ holds.1),
       (
         takes.minute ∷ [],
         takes.readings_are,
@@ -76,7 +77,7 @@ module _ {C : Type 0} (readings : C → Option (List ℕ)) (faults : C → ℕ) 
   }
 
   pub come_here : (old : State C) → HasCome old old
-  come_here old = (refl, omega arith)
+  come_here old = (refl, refl)
 
   pub served : (head : LaneHead) (old : State C) (lines : List (List ℕ)) (answers : List LineAnswer) (desk : State C) → AnswersLines (steps_by readings faults) head old lines answers desk
       → HasServed (rules_at old.zone) (λ (s : State C). s.history) (λ (s : State C). readings s.clock) (HasCome old) head old lines answers desk
@@ -197,21 +198,29 @@ none_lacks head text before all short = record {
 
 -- the clock's count where a lane ended so
 abbrev pub ClockMoves : ℕ → ℕ → PrintEnding → Type 0
-ClockMoves before now ended = (before ≤ now) × (ended ≡ Served ClockFault → Rose before now)
+ClockMoves before now ended = (before ≤ now) × (ended ≡ Served ClockFault → Rose before now) × ((ended ≡ Served ClockFault → ⊥) → now ≡ before)
 
 no_reply_yet : (answers : List LineAnswer) → answers ≡ [] → concat (take 0 (replies_from first_line answers)) ++ [] ≡ []
 no_reply_yet answers none = ap (λ (x : List LineAnswer). concat (take 0 (replies_from first_line x)) ++ []) none
+
+-- what holds of a text that is told
+pub if_some : (P Q : List ℕ → Type 0) (text : Option (List ℕ)) → ((t : List ℕ) → P t → Q t) → IfSome text P → IfSome text Q
+if_some P Q None goes is = tt
+if_some P Q (Some t) goes is = goes t is
+
+pub if_told : (P : List ℕ → Type 0) (text : Option (List ℕ)) → ((t : List ℕ) → text ≡ Some t → P t) → IfSome text P
+if_told P None goes = tt
+if_told P (Some t) goes = goes t refl
 
 -- a lane that ends before a line was answered
 module _ {C : Type 0} (readings : C → Option (List ℕ)) (faults : C → ℕ) (head : LaneHead) (old new : State C) (out_old out_new : Option (List ℕ)) (tally : Tally)
     (empty : old.history ≡ []) (zeros : tally ≡ record { lines = 0; receipts = 0; refused = 0 }) (kept : IsStill readings faults old new) (said : out_new ≡ out_old) where
   pub unanswered : (ended : PrintEnding) (IsText : List ℕ → Type 0) → (ended ≡ Served SinkFault → ⊥) → HasAnswers [] ended
-      → ((text : List ℕ) → IsText text → EndsLane text (ran readings faults head old [] [] old new empty refl tt kept).run ended)
+      → ((text : Option (List ℕ)) → IfSome text IsText → EndsLane text (ran readings faults head old [] [] old new empty refl tt kept).run ended)
       → Laned readings old new out_old out_new tally ended IsText
   unanswered ended IsText no_sink has ends = record {
     zone = kept.zone;
     answers = [];
-    some = ran readings faults head old [] [] old new empty refl tt kept;
     whole = 0;
     next = [];
     said = said ∙ sym (append_known-nil out_old);
@@ -222,7 +231,7 @@ module _ {C : Type 0} (readings : C → Option (List ℕ)) (faults : C → ℕ) 
       refused = ap (λ (t : Tally). t.refused) zeros;
     };
     has = has;
-    text = λ text is. record {
+    of_lane = λ text is. record {
       ran = ran readings faults head old [] [] old new empty refl tt kept;
       in_order = λ some. absurd (some refl);
       ends = ends text is;
@@ -236,17 +245,18 @@ pub headless : {S C : Type 0} (left : S → Option (List ℕ)) (readings : C →
     → Laned readings old old out out tally ended (λ text. HasRead left c_old text [])
 headless left readings faults head c_old c_new old out tally NoHead empty zeros at heads =
     unanswered readings faults head old old out out tally empty zeros (still readings faults old old refl) refl NoHead (λ text. HasRead left c_old text []) (λ same. absurd cc) refl
-    (λ text r. let h = heads text r in record { none = refl; no_head = h.0; within = h.1 })
+    (λ text is. record { none = refl; no_head = if_some (λ t. HasRead left c_old t []) LacksOperatorHead text (λ t r. let h = heads t r in record { no_head = h.0; within = h.1 }) is })
 headless left readings faults head c_old c_new old out tally NoEmployer empty zeros at heads = absurd at
 headless left readings faults head c_old c_new old out tally (Served AllAnswered) empty zeros at heads = absurd at
 headless left readings faults head c_old c_new old out tally (Served SomeRefused) empty zeros at heads = absurd at
 headless left readings faults head c_old c_new old out tally (Served SourceFault) empty zeros at heads =
     unanswered readings faults head old old out out tally empty zeros (still readings faults old old refl) refl (Served SourceFault) (λ text. HasRead left c_old text []) (λ same. absurd cc) tt
-    (λ text r. tt)
+    (λ text is. tt)
 headless left readings faults head c_old c_new old out tally (Served SinkFault) empty zeros at heads = absurd at
 headless left readings faults head c_old c_new old out tally (Served DeviceFault) empty zeros at heads = absurd at
 headless left readings faults head c_old c_new old out tally (Served ClockFault) empty zeros at heads = absurd at
 headless left readings faults head c_old c_new old out tally (Served OutOfMemory) empty zeros at heads = absurd at
 headless left readings faults head c_old c_new old out tally (Served InputLimit) empty zeros at heads =
     unanswered readings faults head old old out out tally empty zeros (still readings faults old old refl) refl (Served InputLimit) (λ text. HasRead left c_old text []) (λ same. absurd cc) tt
-    (λ text r. let h = heads text r in record { long = h.0; read = inl (h.1, refl) })
+    (λ text is. if_some (λ t. HasRead left c_old t []) (λ t. IsCutOff t (ran readings faults head old [] [] old old empty refl tt (still readings faults old old refl)).run) text
+    (λ t r. let h = heads t r in record { long = h.0; read = inl (h.1, refl) }) is)

@@ -1,5 +1,5 @@
 -- from the parts of a call of `print` to the whole
-use Rattle.std.proofs.Common.{◌≡◌, ℕ, ◌<◌, ◌≤◌, ◌⊎◌, inl, inr, List, [], ◌∷◌, ◌++◌, length, take, drop, Option, None, Some, ℤ, refl, sym, ap, subst, ◌∙◌, append_assoc, append-nil, length-append, arith}
+use Rattle.std.proofs.Common.{◌≡◌, ℕ, ◌<◌, ◌≤◌, ◌⊎◌, inl, inr, List, [], ◌∷◌, ◌++◌, length, take, drop, Option, Some, ℤ, refl, sym, ap, subst, ◌∙◌, append_assoc, append-nil, length-append, arith}
 use Rattle.std.specs.List.{concat}
 use Rattle.std.specs.Io.KnownBytes.{append_known}
 use Rattle.std.proofs.lemmas.List.{take_all, nil_from_length}
@@ -20,10 +20,10 @@ use Rattle.rep_print.specs.Extraction.{rules_at}
 use Rattle.rep_print.specs.Ending.{status_of, last_text, NeedsCounts}
 use Rattle.rep_print.specs.Printing.{first_line, Run, IsAllAnswered, IsInOrder, WritesFile, EndsEarly, EndsBy, IsWholeOrNone, Prints, replies_of, counts_text, counts_of_run}
 use Rattle.rep_print.specs.Written.{Printed}
-use Rattle.rep_print.specs.Steps.{Ran, HasAnswers, HasReplied, EndsLane, OfLane, Laned, Makes, IsDone, Closes, counts_line, Told}
+use Rattle.rep_print.specs.Steps.{Ran, HasAnswers, HasReplied, EndsLane, Laned, Makes, IsDone, Closes, counts_line, Told}
 use Rattle.rep_print.specs.declared.ending.PrintEnding.{PrintEnding}
 use Rattle.rep_print.specs.declared.ending.PrintEnding.TheVariants.{NoHead, NoEmployer, Served}
-use Rattle.rep_print.proofs.LaneLemmas.{rose-wider}
+use Rattle.rep_print.proofs.LaneLemmas.{if_told, rose-wider}
 use Rattle.rep_print.proofs.CountLemmas.{whole_within, next_front, replied_all, counts_are}
 
 -- what closing a lane added to the readings of the clock, and to the AFD's file
@@ -58,7 +58,7 @@ nothing_behind [] rest is = sym is
 nothing_behind (x ∷ front) rest is = absurd cc
 
 -- how the command ends, by its text
-module _ {zone : ℤ} (text : List ℕ) (run : Run zone) (answers : List LineAnswer) (whole : ℕ) (next counts : List ℕ) (are : run.answers ≡ answers) where
+module _ {zone : ℤ} (text : Option (List ℕ)) (run : Run zone) (answers : List LineAnswer) (whole : ℕ) (next counts : List ℕ) (are : run.answers ≡ answers) where
   many : length run.lines ≡ length answers
   many = ServesLines-length (rules_at zone) run.head [] run.lines run.given run.answers run.history run.serves ∙ ap length are
 
@@ -220,9 +220,9 @@ module _ {S K C : Type 0} (left : S → Option (List ℕ)) (written : K → Opti
   within = whole_within l.answers l.whole l.next ended l.replied
 
   -- the whole of a text that is told
-  prints_text : (text : List ℕ) → OfLane readings old mid l.answers ended text → (r : Ran readings old mid l.answers) → IsInOrder text r.run → EndsLane text r.run ended
+  prints_text : (text : Option (List ℕ)) (r : Ran readings old mid l.answers) → IsInOrder text r.run → EndsLane text r.run ended
       → Prints old.zone text (status_of told) (r.run.given ++ added) into_file said (file_now ≡ file) (Rose (faults file) (faults file_now)) (faults out) (faults out_now)
-  prints_text text o r order ends =
+  prints_text text r order ends =
       let run = r.run in
       let counts_is : counts_line recorded tally ≡ counts_of_run run l.whole = counts_are old.zone run l.answers l.whole recorded tally r.answers_are l.tally_is within (count ∙ ap length r.history) in
       let lines : length run.lines ≡ length l.answers = ServesLines-length (rules_at old.zone) run.head [] run.lines run.given run.answers run.history run.serves ∙ ap length r.answers_are in
@@ -284,7 +284,7 @@ module _ {S K C : Type 0} (left : S → Option (List ℕ)) (written : K → Opti
       }
 
   of_run : (r : Ran readings old mid l.answers)
-      → ((text : List ℕ) → left source ≡ Some text → Prints old.zone text (status_of told) (r.run.given ++ added) into_file said (file_now ≡ file) (Rose (faults file) (faults file_now)) (faults out) (faults out_now))
+      → Prints old.zone (left source) (status_of told) (r.run.given ++ added) into_file said (file_now ≡ file) (Rose (faults file) (faults file_now)) (faults out) (faults out_now)
       → Printed left written readings faults old.zone (status_of told) source file out old.clock file_now out_now clock_now
   of_run r prints = record {
     given = r.run.given ++ added;
@@ -299,17 +299,7 @@ module _ {S K C : Type 0} (left : S → Option (List ℕ)) (written : K → Opti
     prints = prints;
   }
 
-  -- a text that isn't told is none
-  told_once : (text other : List ℕ) → left source ≡ Some text → left source ≡ Some other → text ≡ other
-  told_once text other one two = let same : Some text ≡ Some other = sym one ∙ two in cc
-
-  by_text : (o : Option (List ℕ)) → left source ≡ o → Printed left written readings faults old.zone (status_of told) source file out old.clock file_now out_now clock_now
-  by_text None is = of_run l.some (λ text tells. (let clash : None ≡ Some text = sym is ∙ tells in absurd cc))
-  by_text (Some text) is =
-      let o = l.text text (fresh text is) in
-      of_run o.ran (λ other tells.
-      subst (λ (x : List ℕ). Prints old.zone x (status_of told) (o.ran.run.given ++ added) into_file said (file_now ≡ file) (Rose (faults file) (faults file_now)) (faults out) (faults out_now))
-      (told_once text other is tells) (prints_text text o o.ran o.in_order o.ends))
-
   pub printed : Printed left written readings faults old.zone (status_of told) source file out old.clock file_now out_now clock_now
-  printed = by_text (left source) refl
+  printed =
+      let o = l.of_lane (left source) (if_told (λ text. HasRead left cutter text []) (left source) fresh) in
+      of_run o.ran (prints_text (left source) o.ran o.in_order o.ends)

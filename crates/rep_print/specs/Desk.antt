@@ -29,7 +29,7 @@ pub record Served {C : Type 0} (readings : C → Option (List ℕ)) (faults : C 
   pub readings_are : readings new.clock ≡ append_known (readings old.clock) given
   pub serves : ServesRequest (rules_at old.zone) old.history q given reply new.history
   pub zone : new.zone ≡ old.zone
-  pub later : faults old.clock ≤ faults new.clock
+  pub kept : faults new.clock ≡ faults old.clock
 
 -- a request that is to be recorded wasn't, since the clock failed
 pub record Untimed {C : Type 0} (readings : C → Option (List ℕ)) (faults : C → ℕ) (old : State C) (q : Request) (new : State C) : Type 0 where
@@ -56,7 +56,7 @@ pub record Takes {C : Type 0} (readings : C → Option (List ℕ)) (faults : C �
   pub readings_are : readings new.clock ≡ append_known (readings old.clock) (minute ∷ [])
   pub history : new.history ≡ old.history
   pub zone : new.zone ≡ old.zone
-  pub later : faults old.clock ≤ faults new.clock
+  pub kept : faults new.clock ≡ faults old.clock
   pub front : due.front ≡ length old.history
   pub is_due : IsExtraction old.zone old.history from to minute due.size due.afd
 

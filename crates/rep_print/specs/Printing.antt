@@ -1,6 +1,6 @@
 -- What `print` makes of a lane: the history of its lines, their AFD, and what it writes however it ends. This
--- project's own; the AFD is that of Portaria MTP 671/2021, annex V.
-use Rattle.std.specs.Prelude.{◌≡◌, ◌≢◌, ℕ, suc, ◌<◌, ◌≤◌, ◌⊎◌, List, [], ◌∷◌, ◌++◌, length, take, drop, ℤ}
+-- project's own; the AFD is that of Portaria MTP 671/2021, annex V. What is said of the text holds where it is told.
+use Rattle.std.specs.Prelude.{◌≡◌, ◌≢◌, ℕ, suc, ◌<◌, ◌≤◌, ◌⊎◌, List, [], ◌∷◌, ◌++◌, length, take, drop, Option, IfSome, ℤ}
 use Rattle.std.specs.List.{concat}
 use Rattle.rep_io.specs.Causes.{Rose}
 use Rattle.rep_io.specs.Streams.{IsReading}
@@ -86,15 +86,19 @@ pub record IsRunOf {zone : ℤ} (text : List ℕ) (run : Run zone) : Type 0 wher
   pub lines : lines_of text ≡ first ∷ run.lines ++ behind
 
 -- lines were answered only behind a head, in the order of the text
-abbrev pub IsInOrder : {zone : ℤ} → List ℕ → Run zone → Type 0
-IsInOrder text run = run.lines ≢ [] → IsRunOf text run
+abbrev pub IsInOrder : {zone : ℤ} → Option (List ℕ) → Run zone → Type 0
+IsInOrder text run = run.lines ≢ [] → IfSome text (λ t. IsRunOf t run)
 
--- every line was answered, and the text isn't too long
-pub record IsAllAnswered {zone : ℤ} (text : List ℕ) (run : Run zone) : Type 0 where
+-- the text has no line but the head and the run's, and it isn't too long
+pub record IsWholeRunOf {zone : ℤ} (text : List ℕ) (run : Run zone) : Type 0 where
   pub of_text : IsRunOf text run
   pub none_behind : of_text.behind ≡ []
-  pub some : run.lines ≢ []
   pub short : length text ≤ longest_text
+
+-- every line was answered, line 2 at least
+pub record IsAllAnswered {zone : ℤ} (text : Option (List ℕ)) (run : Run zone) : Type 0 where
+  pub some : run.lines ≢ []
+  pub whole : IfSome text (λ t. IsWholeRunOf t run)
 
 -- the text is too long, and each line was answered that ends among the bytes that a text may have
 pub record IsCutOff {zone : ℤ} (text : List ℕ) (run : Run zone) : Type 0 where
@@ -102,44 +106,52 @@ pub record IsCutOff {zone : ℤ} (text : List ℕ) (run : Run zone) : Type 0 whe
   pub read : ((ended_lines text ≡ 0) × (run.lines ≡ []))
       ⊎ (IsRunOf text run × (ended_lines text ≡ suc (length run.lines)))
 
--- The next line, which was read within the bytes that a text may have, asks for a request that is to be recorded; line 2
--- asks for the employer's record.
-pub record IsBeforeRecording {zone : ℤ} (text : List ℕ) (run : Run zone) : Type 0 where
+-- the line is the text's next behind the run's, and was read within the bytes that a text may have
+pub record IsNextLineOf {zone : ℤ} (text : List ℕ) (run : Run zone) (line : List ℕ) : Type 0 where
   pub of_text : IsRunOf text run
-  pub line : List ℕ
   pub rest : List (List ℕ)
   pub next : of_text.behind ≡ line ∷ rest
   pub within : IsWithin (suc (suc (length run.lines))) text
+
+-- The next line asks for a request that is to be recorded; line 2 asks for the employer's record.
+pub record IsBeforeRecording {zone : ℤ} (text : Option (List ℕ)) (run : Run zone) : Type 0 where
+  pub line : List ℕ
+  pub next : IfSome text (λ t. IsNextLineOf t run line)
   pub request : Request
   pub ordered : Orders run.head line (Asked request)
   pub fresh : IsVerdict last_nsr run.history request Fresh
   pub begins : BeginsByEmployer run.head (run.lines ++ line ∷ [])
 
--- The next line, which was read within the bytes that a text may have, orders an extraction.
-pub record IsBeforeExtraction {zone : ℤ} (text : List ℕ) (run : Run zone) : Type 0 where
-  pub of_text : IsRunOf text run
+-- The next line, which isn't line 2, orders an extraction.
+pub record IsBeforeExtraction {zone : ℤ} (text : Option (List ℕ)) (run : Run zone) : Type 0 where
   pub line : List ℕ
-  pub rest : List (List ℕ)
-  pub next : of_text.behind ≡ line ∷ rest
-  pub within : IsWithin (suc (suc (length run.lines))) text
+  pub next : IfSome text (λ t. IsNextLineOf t run line)
   pub seq : ℕ
   pub from : ℕ
   pub to : ℕ
   pub ordered : Orders run.head line (Extract seq from to)
   pub some : run.lines ≢ []
 
--- there is no head to begin with
-pub record IsHeadless {zone : ℤ} (text : List ℕ) (run : Run zone) : Type 0 where
-  pub none : run.lines ≡ []
+-- the text has no head to begin with, which was seen within the bytes that a text may have
+pub record LacksOperatorHead (text : List ℕ) : Type 0 where
   pub no_head : HasNoOperatorHead (lines_of text)
   pub within : IsWithin 1 text
 
--- line 2 isn't the employer's
-pub record IsUnfounded {zone : ℤ} (text : List ℕ) (run : Run zone) : Type 0 where
+-- there is no head to begin with
+pub record IsHeadless {zone : ℤ} (text : Option (List ℕ)) (run : Run zone) : Type 0 where
   pub none : run.lines ≡ []
+  pub no_head : IfSome text LacksOperatorHead
+
+-- the text's line 2 isn't the employer's, which was seen within the bytes that a text may have
+pub record LacksLineTwo {zone : ℤ} (text : List ℕ) (run : Run zone) : Type 0 where
   pub of_text : IsRunOf text run
   pub lacks : LacksEmployer run.head of_text.behind
   pub within : IsWithin first_line text
+
+-- line 2 isn't the employer's
+pub record IsUnfounded {zone : ℤ} (text : Option (List ℕ)) (run : Run zone) : Type 0 where
+  pub none : run.lines ≡ []
+  pub lacks : IfSome text (λ t. LacksLineTwo t run)
 
 -- What is written
 
@@ -187,7 +199,7 @@ pub record WritesNothing {zone : ℤ} (run : Run zone) (given written : List ℕ
   pub nothing : written ≡ []
 
 -- The clock was read once more for the AFD, since every line was answered. These bytes of it were written.
-pub record WritesFile {zone : ℤ} (text : List ℕ) (run : Run zone) (given written : List ℕ) : Type 0 where
+pub record WritesFile {zone : ℤ} (text : Option (List ℕ)) (run : Run zone) (given written : List ℕ) : Type 0 where
   pub all_answered : IsAllAnswered text run
   pub minute : ℕ
   pub is_reading : IsReading minute
@@ -197,7 +209,7 @@ pub record WritesFile {zone : ℤ} (text : List ℕ) (run : Run zone) (given wri
   pub front : IsFront written file
 
 -- every line was answered wholly, and the AFD written wholly
-abbrev pub EndsWell : {zone : ℤ} → List ℕ → Run zone → ℕ → List ℕ → List ℕ → Type 0
+abbrev pub EndsWell : {zone : ℤ} → Option (List ℕ) → Run zone → ℕ → List ℕ → List ℕ → Type 0
 EndsWell text run whole given written =
     (whole ≡ length run.lines) × ((writes : WritesFile text run given written) × (written ≡ writes.file))
 
@@ -213,13 +225,13 @@ pub record IsCutAtReply {zone : ℤ} (run : Run zone) (whole : ℕ) (given writt
   pub cut : IsStrictFront next (concat (drop whole (replies_of run)))
 
 -- the AFD was cut
-pub record IsCutInFile {zone : ℤ} (text : List ℕ) (run : Run zone) (whole : ℕ) (given written : List ℕ) : Type 0 where
+pub record IsCutInFile {zone : ℤ} (text : Option (List ℕ)) (run : Run zone) (whole : ℕ) (given written : List ℕ) : Type 0 where
   pub all_whole : whole ≡ length run.lines
   pub writes : WritesFile text run given written
   pub cut : IsStrictFront written writes.file
 
 -- The counts' line was cut, once the AFD stood wholly, or where memory was short for a request that is to be recorded.
-pub record IsCutAtCounts {zone : ℤ} (text : List ℕ) (run : Run zone) (whole : ℕ) (given written counts : List ℕ) : Type 0 where
+pub record IsCutAtCounts {zone : ℤ} (text : Option (List ℕ)) (run : Run zone) (whole : ℕ) (given written counts : List ℕ) : Type 0 where
   pub all_whole : whole ≡ length run.lines
   pub writes : (IsBeforeRecording text run × WritesNothing run given written)
       ⊎ ((file : WritesFile text run given written) × (written ≡ file.file))
@@ -227,7 +239,7 @@ pub record IsCutAtCounts {zone : ℤ} (text : List ℕ) (run : Run zone) (whole 
 
 -- how the command ends, by its text and by what it wrote: `next` of the reply behind those that were written wholly, and
 -- `counts` of the counts' line
-abbrev pub EndsBy : {zone : ℤ} → List ℕ → Run zone → ℕ → List ℕ → List ℕ → List ℕ → List ℕ → PrintEnding → Type 0
+abbrev pub EndsBy : {zone : ℤ} → Option (List ℕ) → Run zone → ℕ → List ℕ → List ℕ → List ℕ → List ℕ → PrintEnding → Type 0
 EndsBy text run whole given written next counts NoHead = EndsEarly run whole given written × IsHeadless text run
 EndsBy text run whole given written next counts NoEmployer = EndsEarly run whole given written × IsUnfounded text run
 EndsBy text run whole given written next counts (Served AllAnswered) =
@@ -235,7 +247,7 @@ EndsBy text run whole given written next counts (Served AllAnswered) =
 EndsBy text run whole given written next counts (Served SomeRefused) =
     EndsWell text run whole given written × (0 < refusals_in run.answers)
 EndsBy text run whole given written next counts (Served SourceFault) = EndsEarly run whole given written
-EndsBy text run whole given written next counts (Served InputLimit) = EndsEarly run whole given written × IsCutOff text run
+EndsBy text run whole given written next counts (Served InputLimit) = EndsEarly run whole given written × IfSome text (λ t. IsCutOff t run)
 EndsBy text run whole given written next counts (Served ClockFault) =
     EndsEarly run whole given written × (IsBeforeRecording text run ⊎ IsBeforeExtraction text run ⊎ IsAllAnswered text run)
 EndsBy text run whole given written next counts (Served OutOfMemory) =
@@ -246,7 +258,7 @@ EndsBy text run whole given written next counts (Served SinkFault) =
     ⊎ IsCutAtCounts text run whole given written counts
 
 -- nothing of an AFD stands, or all of it
-abbrev pub IsWholeOrNone : {zone : ℤ} → List ℕ → Run zone → List ℕ → List ℕ → Type 0
+abbrev pub IsWholeOrNone : {zone : ℤ} → Option (List ℕ) → Run zone → List ℕ → List ℕ → Type 0
 IsWholeOrNone text run given written =
     WritesNothing run given written ⊎ ((writes : WritesFile text run given written) × (written ≡ writes.file))
 
@@ -265,7 +277,7 @@ pub record IsPrintable (text : List ℕ) : Type 0 where
 -- A whole run of the command: from the text to the status, the readings that the clock gave, the bytes of the AFD's
 -- file and those of the output. The file's sink may have been left alone, or have failed; the output's faults are counted
 -- before and now.
-pub record Prints (zone : ℤ) (text : List ℕ) (status : ℕ) (given written said : List ℕ) (FileUntouched FileFailed : Type 0) (before now : ℕ) : Type 0 where
+pub record Prints (zone : ℤ) (text : Option (List ℕ)) (status : ℕ) (given written said : List ℕ) (FileUntouched FileFailed : Type 0) (before now : ℕ) : Type 0 where
   pub run : Run zone
   pub whole : ℕ
   pub ending : PrintEnding

@@ -1,5 +1,5 @@
 -- What the parts of `print` leave: words of this crate's own functions.
-use Rattle.std.specs.Prelude.{◌≡◌, ◌≢◌, ◌⊎◌, ℕ, zero, suc, ◌+◌, ◌<◌, ◌≤◌, List, [], ◌∷◌, ◌++◌, length, take, drop, ℤ, Option, Result, Ok, Err}
+use Rattle.std.specs.Prelude.{◌≡◌, ◌≢◌, ◌⊎◌, ℕ, zero, suc, ◌+◌, ◌<◌, ◌≤◌, List, [], ◌∷◌, ◌++◌, length, take, drop, ℤ, Option, IfSome, Result, Ok, Err}
 use Rattle.std.specs.List.{concat}
 use Rattle.std.specs.Io.KnownBytes.{append_known}
 use Rattle.rep_io.specs.Causes.{Rose}
@@ -164,8 +164,8 @@ HasReplied answers whole next ended =
     ((whole ≡ length answers) × (next ≡ []) × (ended ≢ Served SinkFault))
     ⊎ ((suc whole ≡ length answers) × IsStrictFront next (concat (drop whole (replies_from first_line answers))) × (ended ≡ Served SinkFault))
 
--- what the ending says of the text, whose lines these were
-abbrev pub EndsLane : {zone : ℤ} → List ℕ → Run zone → PrintEnding → Type 0
+-- what the ending says of the text, whose lines these were, where it is told
+abbrev pub EndsLane : {zone : ℤ} → Option (List ℕ) → Run zone → PrintEnding → Type 0
 EndsLane text run NoHead = IsHeadless text run
 EndsLane text run NoEmployer = IsUnfounded text run
 EndsLane text run (Served AllAnswered) = IsAllAnswered text run
@@ -175,26 +175,25 @@ EndsLane text run (Served SinkFault) = Unit {0}
 EndsLane text run (Served DeviceFault) = ⊥
 EndsLane text run (Served ClockFault) = IsBeforeRecording text run ⊎ IsBeforeExtraction text run
 EndsLane text run (Served OutOfMemory) = IsBeforeRecording text run
-EndsLane text run (Served InputLimit) = IsCutOff text run
+EndsLane text run (Served InputLimit) = IfSome text (λ t. IsCutOff t run)
 
-pub record OfLane {C : Type 0} (readings : C → Option (List ℕ)) (old new : State C) (answers : List LineAnswer) (ended : PrintEnding) (text : List ℕ) : Type 0 where
+pub record OfLane {C : Type 0} (readings : C → Option (List ℕ)) (old new : State C) (answers : List LineAnswer) (ended : PrintEnding) (text : Option (List ℕ)) : Type 0 where
   pub ran : Ran readings old new answers
   pub in_order : IsInOrder text ran.run
   pub ends : EndsLane text ran.run ended
 
--- A lane was served, up to its end or as far as it went. `IsText` says which texts it may be.
+-- A lane was served, up to its end or as far as it went. `IsText` says which texts it may be; none may be told.
 pub record Laned {C : Type 0} (readings : C → Option (List ℕ)) (old new : State C) (out_old out_new : Option (List ℕ)) (tally : Tally) (ended : PrintEnding)
     (IsText : List ℕ → Type 0) : Type 0 where
   pub zone : new.zone ≡ old.zone
   pub answers : List LineAnswer
-  pub some : Ran readings old new answers
   pub whole : ℕ
   pub next : List ℕ
   pub said : out_new ≡ append_known out_old (concat (take whole (replies_from first_line answers)) ++ next)
   pub replied : HasReplied answers whole next ended
   pub tally_is : IsTally (take whole answers) tally
   pub has : HasAnswers answers ended
-  pub text : (text : List ℕ) → IsText text → OfLane readings old new answers ended text
+  pub of_lane : (text : Option (List ℕ)) → IfSome text IsText → OfLane readings old new answers ended text
 
 -- the text's head was read, and no line behind it
 abbrev pub IsHeaded : {S : Type 0} → (S → Option (List ℕ)) → LaneHead → Cutter S → List ℕ → Type 0

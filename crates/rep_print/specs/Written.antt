@@ -1,5 +1,5 @@
 -- What a call of `print` does to its source, file, clock and output: this project's own.
-use Rattle.std.specs.Prelude.{◌≡◌, ℕ, List, Option, Some, ℤ}
+use Rattle.std.specs.Prelude.{◌≡◌, ℕ, List, Option, ℤ}
 use Rattle.std.specs.Io.KnownBytes.{append_known}
 use Rattle.rep_io.specs.Causes.{Rose}
 use Rattle.rep_print.specs.Printing.{Prints}
@@ -13,5 +13,4 @@ pub record Printed {S K C : Type 0} (left : S → Option (List ℕ)) (written : 
   pub readings_are : readings clock_now ≡ append_known (readings clock) given
   pub file_is : written file_now ≡ append_known (written file) into_file
   pub out_is : written out_now ≡ append_known (written out) said
-  pub prints : (text : List ℕ) → left source ≡ Some text
-      → Prints zone text status given into_file said (file_now ≡ file) (Rose (faults file) (faults file_now)) (faults out) (faults out_now)
+  pub prints : Prints zone (left source) status given into_file said (file_now ≡ file) (Rose (faults file) (faults file_now)) (faults out) (faults out_now)

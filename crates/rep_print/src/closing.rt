@@ -27,6 +27,8 @@ pub fn close<K: Sink, C: Clock>(
     ensures file_later { K.faults file.old ≤ K.faults file.new }
     ensures file_fault { result ≡ PrintEnding.Served Ending.SinkFault → ending ≢ PrintEnding.Served Ending.SinkFault
         → Rose (K.faults file.old) (K.faults file.new) }
+    ensures no_clock_fault { result ≢ PrintEnding.Served Ending.ClockFault → C.faults desk.new.clock ≡ C.faults desk.old.clock }
+    ensures no_file_fault { result ≢ PrintEnding.Served Ending.SinkFault → K.faults file.new ≡ K.faults file.old }
     ensures unopened { (IsDone result → ⊥) → result ≢ PrintEnding.Served Ending.SinkFault → file.new ≡ file.old }
     ensures untouched { (IsDone ending → ⊥) → file.new ≡ file.old }
     ensures unread { (IsDone ending → ⊥) → desk.new ≡ desk.old }
@@ -55,6 +57,8 @@ fn close_done<K: Sink, C: Clock>(
     ensures file_later { K.faults file.old ≤ K.faults file.new }
     ensures file_fault { result ≡ PrintEnding.Served Ending.SinkFault
         → Rose (K.faults file.old) (K.faults file.new) }
+    ensures no_clock_fault { result ≢ PrintEnding.Served Ending.ClockFault → C.faults desk.new.clock ≡ C.faults desk.old.clock }
+    ensures no_file_fault { result ≢ PrintEnding.Served Ending.SinkFault → K.faults file.new ≡ K.faults file.old }
     ensures unopened { (IsDone result → ⊥) → result ≢ PrintEnding.Served Ending.SinkFault → file.new ≡ file.old }
 {
     match desk.make_file(file) {

@@ -45,6 +45,10 @@ pub fn print<S: Source, K: Sink, C: Clock>(
     ensures sink_fault { result.status ≡ 5
         → Rose (K.faults file) (K.faults result.file) ⊎ Rose (K.faults out) (K.faults result.out) }
     ensures clock_fault { result.status ≡ 7 → Rose (C.faults clock) (C.faults result.clock) }
+    // No fault is passed over. One of `out` at the counts is told in the place of another.
+    ensures no_source_fault { result.status ≢ 4 → result.status ≢ 5 → S.faults result.source ≡ S.faults source }
+    ensures no_file_fault { result.status ≢ 5 → K.faults result.file ≡ K.faults file }
+    ensures no_clock_fault { result.status ≢ 7 → result.status ≢ 5 → C.faults result.clock ≡ C.faults clock }
     // Where no AFD is written, its file isn't opened.
     ensures unopened { result.status ≢ 0 → result.status ≢ 1 → result.status ≢ 5 → result.file ≡ file }
     // Where the lane is refused, the clock isn't asked.

@@ -1,5 +1,5 @@
 //! The recorder in memory that serves a printed lane.
-ghost use Rattle.std.specs.Prelude.{◌≡◌, ◌≤◌, [], length, Err};
+ghost use Rattle.std.specs.Prelude.{◌≡◌, ◌≢◌, ◌≤◌, [], length, Err};
 ghost use Rattle.rep_io.specs.Causes.{Rose};
 ghost use Rattle.rep_fields.specs.Moment.{IsOffset};
 ghost use Rattle.afd_records.specs.Record.{last_nsr};
@@ -87,6 +87,8 @@ impl<C: Clock> PrintDesk<C> {
         ensures file_later { K.faults file.old ≤ K.faults file.new }
         ensures file_fault { result ≡ Err Ending.SinkFault
             → Rose (K.faults file.old) (K.faults file.new) }
+        ensures no_clock_fault { result ≢ Err Ending.ClockFault → C.faults self.new.clock ≡ C.faults self.old.clock }
+        ensures no_file_fault { result ≢ Err Ending.SinkFault → K.faults file.new ≡ K.faults file.old }
         ensures unopened { result ≡ Err Ending.ClockFault → file.new ≡ file.old }
     {
         let Ok(minute) = self.clock.now() else {

@@ -1,5 +1,5 @@
 //! The lane's lines, served one after another.
-ghost use Rattle.std.specs.Prelude.{◌≡◌, ◌↔◌, ◌+◌, ◌<◌, ◌≤◌, ◌^◌, ℕ, List, [], Err, IfOk, IfErr, IsTrue};
+ghost use Rattle.std.specs.Prelude.{◌≡◌, ◌≢◌, ◌↔◌, ◌+◌, ◌<◌, ◌≤◌, ◌^◌, ℕ, List, [], Err, IfOk, IfErr, IsTrue};
 ghost use Rattle.rep_io.specs.Causes.{Rose};
 ghost use Rattle.rep_wire.specs.LaneGrammar.{IsLaneHead};
 ghost use Rattle.rep_lane.specs.LaneText.{HasRead};
@@ -46,9 +46,13 @@ pub fn serve<S: Source, K: Sink, C: Clock>(
     ensures source_later { S.faults lines.source ≤ S.faults result.lines.source }
     ensures source_fault { result.ending ≡ PrintEnding.Served Ending.SourceFault
         → Rose (S.faults lines.source) (S.faults result.lines.source) }
+    ensures no_source_fault { result.ending ≢ PrintEnding.Served Ending.SourceFault
+        → S.faults result.lines.source ≡ S.faults lines.source }
     ensures clock_later { C.faults desk.old.clock ≤ C.faults desk.new.clock }
     ensures clock_fault { result.ending ≡ PrintEnding.Served Ending.ClockFault
         → Rose (C.faults desk.old.clock) (C.faults desk.new.clock) }
+    ensures no_clock_fault { result.ending ≢ PrintEnding.Served Ending.ClockFault
+        → C.faults desk.new.clock ≡ C.faults desk.old.clock }
     ensures out_later { K.faults out ≤ K.faults result.out }
     ensures out_fault { result.ending ≡ PrintEnding.Served Ending.SinkFault
         → Rose (K.faults out) (K.faults result.out) }
@@ -73,6 +77,8 @@ fn operator_head<S: Source>(lines: &mut Lines<S>) -> Result<LaneHead, PrintEndin
     ensures later { S.faults lines.old.source ≤ S.faults lines.new.source }
     ensures source_fault { result ≡ Err (PrintEnding.Served Ending.SourceFault)
         → Rose (S.faults lines.old.source) (S.faults lines.new.source) }
+    ensures no_source_fault { result ≢ Err (PrintEnding.Served Ending.SourceFault)
+        → S.faults lines.new.source ≡ S.faults lines.old.source }
 {
     match read_head(lines) {
         Ok(head) => {
@@ -103,9 +109,13 @@ fn serve_lines<S: Source, K: Sink, C: Clock>(
     ensures source_later { S.faults lines.source ≤ S.faults result.lines.source }
     ensures source_fault { result.ending ≡ PrintEnding.Served Ending.SourceFault
         → Rose (S.faults lines.source) (S.faults result.lines.source) }
+    ensures no_source_fault { result.ending ≢ PrintEnding.Served Ending.SourceFault
+        → S.faults result.lines.source ≡ S.faults lines.source }
     ensures clock_later { C.faults desk.old.clock ≤ C.faults desk.new.clock }
     ensures clock_fault { result.ending ≡ PrintEnding.Served Ending.ClockFault
         → Rose (C.faults desk.old.clock) (C.faults desk.new.clock) }
+    ensures no_clock_fault { result.ending ≢ PrintEnding.Served Ending.ClockFault
+        → C.faults desk.new.clock ≡ C.faults desk.old.clock }
     ensures out_later { K.faults out ≤ K.faults result.out }
     ensures out_fault { result.ending ≡ PrintEnding.Served Ending.SinkFault
         → Rose (K.faults out) (K.faults result.out) }
@@ -136,6 +146,8 @@ fn begin<S: Source, K: Sink, C: Clock>(
     ensures source_later { S.faults lines.old.source ≤ S.faults lines.new.source }
     ensures source_fault { result ≡ Err (PrintEnding.Served Ending.SourceFault)
         → Rose (S.faults lines.old.source) (S.faults lines.new.source) }
+    ensures no_source_fault { result ≢ Err (PrintEnding.Served Ending.SourceFault)
+        → S.faults lines.new.source ≡ S.faults lines.old.source }
     ensures out_later { K.faults out.old ≤ K.faults out.new }
     ensures out_fault { result ≡ Err (PrintEnding.Served Ending.SinkFault)
         → Rose (K.faults out.old) (K.faults out.new) }
@@ -208,6 +220,8 @@ fn go_on<S: Source, K: Sink, C: Clock>(
     ensures source_later { S.faults lines.source ≤ S.faults result.lines.source }
     ensures source_fault { result.ending ≡ PrintEnding.Served Ending.SourceFault
         → Rose (S.faults lines.source) (S.faults result.lines.source) }
+    ensures no_source_fault { result.ending ≢ PrintEnding.Served Ending.SourceFault
+        → S.faults result.lines.source ≡ S.faults lines.source }
     ensures out_later { K.faults out ≤ K.faults result.out }
     ensures out_fault { result.ending ≡ PrintEnding.Served Ending.SinkFault
         → Rose (K.faults out) (K.faults result.out) }

@@ -1,4 +1,3 @@
 mod Moved
 mod Rising
 mod Statuses
-mod Numbers

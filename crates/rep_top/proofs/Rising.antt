@@ -1,5 +1,6 @@
 -- one of the objects failed, by its name
-use Rattle.std.proofs.Common.{◌≡◌, ℕ, List, [], ◌∷◌, Option, None, Some, inl, inr, sym, subst}
+use Rattle.std.proofs.Common.{◌≡◌, ◌∙◌, ℕ, List, [], ◌∷◌, Option, Some, inl, inr, ap, sym, subst}
+use Rattle.std.specs.Prelude.{map, option_map}
 use Rattle.rep_io.specs.Causes.{Rose}
 use Rattle.rep_top.specs.Program.{SomeRose, ThatRose}
 
@@ -23,7 +24,18 @@ pub that_rose : {A : Type 0} (faults : A → ℕ) (old new : Option A) (a b : A)
 that_rose {A} faults old new a b o n rose =
     subst (λ (x : Option A). ThatRose faults x new) (sym o) (subst (λ (x : Option A). ThatRose faults (Some a) x) (sym n) rose)
 
--- nothing is not something
-pub none_isnt_some : {A : Type 0} (x : Option A) (a : A) → x ≡ None → x ≡ Some a → ⊥
-none_isnt_some None a n e = cc
-none_isnt_some (Some b) a n e = cc
+-- where no object's count rose, the counts are as they were
+
+pub one_kept : {A : Type 0} (faults : A → ℕ) (olds news : List A) (a b : A) → olds ≡ a ∷ [] → news ≡ b ∷ [] → faults b ≡ faults a → map faults news ≡ map faults olds
+one_kept {A} faults olds news a b o n kept =
+    ap (map faults) n ∙ (ap (λ (k : ℕ). k ∷ []) kept ∙ sym (ap (map faults) o))
+
+pub two_kept : {A : Type 0} (faults : A → ℕ) (olds news : List A) (a b c d : A) → olds ≡ a ∷ c ∷ [] → news ≡ b ∷ d ∷ []
+    → faults b ≡ faults a → faults d ≡ faults c → map faults news ≡ map faults olds
+two_kept {A} faults olds news a b c d o n first second =
+    ap (map faults) n ∙ (ap (λ (k : ℕ). k ∷ faults d ∷ []) first ∙ (ap (λ (k : ℕ). faults a ∷ k ∷ []) second ∙ sym (ap (map faults) o)))
+
+pub that_kept : {A : Type 0} (faults : A → ℕ) (old new : Option A) (a b : A) → old ≡ Some a → new ≡ Some b → faults b ≡ faults a
+    → option_map faults new ≡ option_map faults old
+that_kept {A} faults old new a b o n kept =
+    ap (option_map faults) n ∙ (ap (λ (k : ℕ). Some k) kept ∙ sym (ap (option_map faults) o))

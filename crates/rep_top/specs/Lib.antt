@@ -1,2 +1,3 @@
 pub mod Program
 pub mod Commands
+pub mod Asking

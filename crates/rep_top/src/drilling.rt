@@ -1,13 +1,13 @@
 //! `drill` over a rig.
-ghost use Rattle.std.specs.Prelude.{◌≡◌, ◌≢◌};
-ghost use Rattle.rep_io.specs.Causes.{Rose};
-ghost use Rattle.rep_top.specs.Program.{sense_of};
-ghost use Rattle.rep_top.specs.Commands.{DrillsOver, IsDrillRig};
+ghost use Rattle.std.specs.Prelude.{◌≢◌};
+ghost use Rattle.rep_top.specs.Program.{NothingFailed, TellsFaults, outside};
+ghost use Rattle.rep_top.specs.Commands.{IsDrillRig};
+ghost use Rattle.rep_top.specs.Asking.{CanDo, Does, IsDone};
 
 use rep_disk::Disk;
 use rep_drill::drill;
 use rep_io::{Clock, Sink, Source};
-use rep_words::{Outcome, Rig};
+use rep_words::{Asked, Outcome, Rig};
 use std::alloc::Global;
 
 /// Runs `drill` over the rig.
@@ -17,11 +17,11 @@ pub(crate) fn drill_over<S: Source, K: Sink, D: Disk, C: Clock>(
 ) -> Outcome<S, K, D, C>
     requires rigged { IsDrillRig rig }
     ensures rigged { IsDrillRig result.rig }
-    ensures drilled { DrillsOver (sense_of S.left S.faults K.written K.faults D.shown C.readings C.faults) rig result.rig result.status }
-    ensures statuses { (result.status ≢ 2) × (result.status ≢ 6) × (result.status ≢ 7) }
-    ensures source_fault { result.status ≡ 4 → (before : IsDrillRig rig) → (after : IsDrillRig result.rig)
-        → Rose (S.faults before.schedule) (S.faults after.schedule) }
-    ensures sink_fault { result.status ≡ 5 → Rose (K.faults rig.out) (K.faults result.rig.out) }
+    ensures does { Does Asked.Drill (outside S.Source K.Sink D.Disk C.Clock) rig result.rig result.status }
+    ensures told { TellsFaults (outside S.Source K.Sink D.Disk C.Clock) rig result.rig result.status }
+    ensures complete { CanDo Asked.Drill (outside S.Source K.Sink D.Disk C.Clock) rig → NothingFailed (outside S.Source K.Sink D.Disk C.Clock) rig result.rig
+        → IsDone Asked.Drill result.status }
+    ensures on_grammar { result.status ≢ 2 }
 {
     let Rig {
         mut texts,

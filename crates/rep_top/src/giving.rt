@@ -1,19 +1,14 @@
 //! `receipt` over a rig.
-ghost use Rattle.std.specs.Prelude.{◌≡◌, ◌≢◌, ◌⊎◌, ℕ, List, Some};
-ghost use Rattle.rep_io.specs.Causes.{Rose};
-ghost use Rattle.afd_records.specs.Record.{IsClocking, IsNsr};
-ghost use Rattle.rep_wire.specs.declared.request.Entry.{Entry};
-ghost use Rattle.rep_core.specs.History.{IsNumbered};
-ghost use Rattle.rep_ledger.specs.Ledger.{IsLedgerOf};
-ghost use Rattle.rep_site.specs.declared.site.Site.{Site};
-ghost use Rattle.rep_run.specs.Settings.{SaysSite};
-ghost use Rattle.rep_top.specs.Program.{sense_of};
-ghost use Rattle.rep_top.specs.Commands.{AnswersOver, IsReceiptRig};
+ghost use Rattle.std.specs.Prelude.{◌≢◌};
+ghost use Rattle.afd_records.specs.Record.{IsNsr};
+ghost use Rattle.rep_top.specs.Program.{NothingFailed, TellsFaults, outside};
+ghost use Rattle.rep_top.specs.Commands.{IsReceiptRig};
+ghost use Rattle.rep_top.specs.Asking.{CanDo, Does, IsDone};
 
 use rep_disk::Disk;
 use rep_io::{Clock, Sink, Source};
 use rep_query::receipt;
-use rep_words::{Outcome, Rig};
+use rep_words::{Asked, Outcome, Rig};
 use std::alloc::Global;
 
 /// Runs `receipt` over the rig.
@@ -25,19 +20,11 @@ pub(crate) fn receipt_over<S: Source, K: Sink, D: Disk, C: Clock>(
     requires nsr { IsNsr nsr }
     requires rigged { IsReceiptRig rig }
     ensures rigged { IsReceiptRig result.rig }
-    ensures answered { AnswersOver nsr (sense_of S.left S.faults K.written K.faults D.shown C.readings C.faults) rig result.rig result.status }
-    ensures statuses { (result.status ≢ 2) × (result.status ≢ 7) }
-    ensures source_fault { result.status ≡ 4 → (before : IsReceiptRig rig) → (after : IsReceiptRig result.rig)
-        → Rose (S.faults before.site) (S.faults after.site) }
-    ensures sink_fault { result.status ≡ 5 → Rose (K.faults rig.out) (K.faults result.rig.out) }
-    ensures device_fault { result.status ≡ 6 → (before : IsReceiptRig rig) → (after : IsReceiptRig result.rig)
-        → Rose (D.shown before.drive).faults (D.shown after.drive).faults }
-    ensures complete { (text contents : List ℕ) (site : Site) (history : List Entry) (entry : Entry) (before : IsReceiptRig rig) → (after : IsReceiptRig result.rig)
-        → S.left before.site ≡ Some text → SaysSite text site → (D.shown before.drive).contents ≡ Some contents → IsLedgerOf contents history
-        → IsNumbered history nsr entry → IsClocking entry.body
-        → ¬ Rose (S.faults before.site) (S.faults after.site) → ¬ Rose (K.faults rig.out) (K.faults result.rig.out)
-        → ¬ Rose (D.shown before.drive).faults (D.shown after.drive).faults
-        → (result.status ≡ 0) ⊎ (result.status ≡ 8) }
+    ensures does { Does (Asked.Receipt nsr) (outside S.Source K.Sink D.Disk C.Clock) rig result.rig result.status }
+    ensures told { TellsFaults (outside S.Source K.Sink D.Disk C.Clock) rig result.rig result.status }
+    ensures complete { CanDo (Asked.Receipt nsr) (outside S.Source K.Sink D.Disk C.Clock) rig → NothingFailed (outside S.Source K.Sink D.Disk C.Clock) rig result.rig
+        → IsDone (Asked.Receipt nsr) result.status }
+    ensures on_grammar { result.status ≢ 2 }
 {
     let Rig {
         mut texts,

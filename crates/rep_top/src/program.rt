@@ -1,8 +1,7 @@
-ghost use Rattle.std.specs.Prelude.{◌≡◌, ◌≢◌, ◌⊎◌, ℕ, ℤ, None, Some, map, string_bytes};
-ghost use Rattle.rep_words.specs.Words.{Asks, IsCreate, IsDrill, IsExtract, IsOnGrammar, IsPrint, IsReceipt, IsRun};
-ghost use Rattle.rep_words.specs.declared.period.Period.{Period};
-ghost use Rattle.rep_top.specs.Program.{ClockFailed, DiskFailed, IsRiggedFor, NothingFailed, Refuses, RefusesDates, SinkFailed, SourceFailed, sense_of};
-ghost use Rattle.rep_top.specs.Commands.{AnswersOver, CanAnswer, CanCreate, CanExtract, CanPrint, CanRun, CreatesOver, CreatesSafely, DrillsOver, ExtractsOver, LeavesFile, PrintsOver, RunsOver};
+ghost use Rattle.std.specs.Prelude.{◌≡◌, ◌≢◌, map, string_bytes};
+ghost use Rattle.rep_words.specs.Words.{Asks, IsOnGrammar};
+ghost use Rattle.rep_top.specs.Program.{IsRiggedFor, NothingFailed, Refuses, TellsFaults, outside};
+ghost use Rattle.rep_top.specs.Asking.{CanDo, Does, IsAskable, IsDone};
 
 use crate::creating::create_over;
 use crate::drilling::drill_over;
@@ -29,80 +28,49 @@ pub fn top<S: Source, K: Sink, D: Disk, C: Clock>(
     // Words that are those of no command are told, and nothing else is touched.
     ensures off_grammar { ¬ IsOnGrammar (map string_bytes words.now) → result.status ≡ 2 }
     ensures only_off_grammar { result.status ≡ 2 → ¬ IsOnGrammar (map string_bytes words.now) }
-    ensures untouched { ¬ IsOnGrammar (map string_bytes words.now) → Refuses (sense_of S.left S.faults K.written K.faults D.shown C.readings C.faults) rig result.rig }
+    ensures untouched { ¬ IsOnGrammar (map string_bytes words.now) → Refuses (outside S.Source K.Sink D.Disk C.Clock) rig result.rig }
 
-    // `print`: the AFD, the replies and the readings of the clock are those of the lane's lines, served one after another over
-    // an empty history, however it ends. Where no AFD is written, its file isn't opened.
-    ensures printed { (zone : ℤ) → IsPrint (map string_bytes words.now) zone → PrintsOver zone (sense_of S.left S.faults K.written K.faults D.shown C.readings C.faults) rig result.rig result.status }
-    ensures unopened { (zone : ℤ) → IsPrint (map string_bytes words.now) zone
-        → result.status ≢ 0 → result.status ≢ 1 → result.status ≢ 5 → LeavesFile rig result.rig }
-
-    // `create`: the disk keeps the site's employer record alone, recorded at a reading of the clock, or the call stopped
-    // before. A crash in the call leaves a blank disk, or one that keeps that record.
-    ensures created { IsCreate (map string_bytes words.now) → CreatesOver (sense_of S.left S.faults K.written K.faults D.shown C.readings C.faults) rig result.rig result.status }
-    ensures safe { IsCreate (map string_bytes words.now) → CreatesSafely (sense_of S.left S.faults K.written K.faults D.shown C.readings C.faults) rig result.rig }
-
-    // `run`: the lines of the lane were served one after another over the history that the disk kept, which goes on by their
-    // entries, however the lane ends; and a crash in the call leaves a front of it that has each entry with a receipt.
-    ensures ran { IsRun (map string_bytes words.now) → RunsOver (sense_of S.left S.faults K.written K.faults D.shown C.readings C.faults) rig result.rig result.status }
-
-    // `extract`: the AFD of the period was written, out of the history that the disk keeps, at a reading of the clock, however
-    // it ends; the journal was only made sure of and read. Where FROM and TO name no period, nothing is touched.
-    ensures extracted { (period : Period) → IsExtract (map string_bytes words.now) (Some period)
-        → ExtractsOver period (sense_of S.left S.faults K.written K.faults D.shown C.readings C.faults) rig result.rig result.status }
-    ensures misdated { IsExtract (map string_bytes words.now) None → result.status ≡ 3 }
-    ensures undated { IsExtract (map string_bytes words.now) None → RefusesDates (sense_of S.left S.faults K.written K.faults D.shown C.readings C.faults) rig result.rig }
-
-    // `receipt`: what is written to the output is the receipt of the clocking with the number in the history that the disk
-    // keeps, or that there is none, however it ends; the journal was only made sure of and read.
-    ensures answered { (nsr : ℕ) → IsReceipt (map string_bytes words.now) nsr
-        → AnswersOver nsr (sense_of S.left S.faults K.written K.faults D.shown C.readings C.faults) rig result.rig result.status }
-
-    // `drill`: the lines of the schedule were played over a world of the sample site, one after another, and what is said of each
-    // is what its event showed, however it ends.
-    ensures drilled { IsDrill (map string_bytes words.now)
-        → DrillsOver (sense_of S.left S.faults K.written K.faults D.shown C.readings C.faults) rig result.rig result.status }
+    // What the words ask for is done.
+    ensures does { (asked : Asked) → Asks (map string_bytes words.now) asked
+        → Does asked (outside S.Source K.Sink D.Disk C.Clock) rig result.rig result.status }
 
     // A fault of the outside is told only where that object's count rose in this call.
-    ensures source_fault { result.status ≡ 4 → SourceFailed (sense_of S.left S.faults K.written K.faults D.shown C.readings C.faults) rig result.rig }
-    ensures sink_fault { result.status ≡ 5 → SinkFailed (sense_of S.left S.faults K.written K.faults D.shown C.readings C.faults) rig result.rig }
-    ensures device_fault { result.status ≡ 6 → DiskFailed (sense_of S.left S.faults K.written K.faults D.shown C.readings C.faults) rig result.rig }
-    ensures clock_fault { result.status ≡ 7 → ClockFailed (sense_of S.left S.faults K.written K.faults D.shown C.readings C.faults) rig result.rig }
+    ensures told { TellsFaults (outside S.Source K.Sink D.Disk C.Clock) rig result.rig result.status }
 
     // Where nothing is refused as a whole and nothing of the outside fails, all is done, unless memory is short.
-    ensures prints_all { (zone : ℤ) → IsPrint (map string_bytes words.now) zone
-        → CanPrint (sense_of S.left S.faults K.written K.faults D.shown C.readings C.faults) rig
-        → NothingFailed (sense_of S.left S.faults K.written K.faults D.shown C.readings C.faults) rig result.rig
-        → (result.status ≡ 0) ⊎ (result.status ≡ 1) ⊎ (result.status ≡ 8) }
-    ensures creates_all { IsCreate (map string_bytes words.now)
-        → CanCreate (sense_of S.left S.faults K.written K.faults D.shown C.readings C.faults) rig
-        → NothingFailed (sense_of S.left S.faults K.written K.faults D.shown C.readings C.faults) rig result.rig
-        → (result.status ≡ 0) ⊎ (result.status ≡ 8) }
-    ensures runs_all { IsRun (map string_bytes words.now)
-        → CanRun (sense_of S.left S.faults K.written K.faults D.shown C.readings C.faults) rig
-        → NothingFailed (sense_of S.left S.faults K.written K.faults D.shown C.readings C.faults) rig result.rig
-        → (result.status ≡ 0) ⊎ (result.status ≡ 1) ⊎ (result.status ≡ 8) }
-    ensures extracts_all { (period : Period) → IsExtract (map string_bytes words.now) (Some period)
-        → CanExtract (sense_of S.left S.faults K.written K.faults D.shown C.readings C.faults) rig
-        → NothingFailed (sense_of S.left S.faults K.written K.faults D.shown C.readings C.faults) rig result.rig
-        → (result.status ≡ 0) ⊎ (result.status ≡ 8) }
-    ensures answers_all { (nsr : ℕ) → IsReceipt (map string_bytes words.now) nsr
-        → CanAnswer nsr (sense_of S.left S.faults K.written K.faults D.shown C.readings C.faults) rig
-        → NothingFailed (sense_of S.left S.faults K.written K.faults D.shown C.readings C.faults) rig result.rig
-        → (result.status ≡ 0) ⊎ (result.status ≡ 8) }
+    ensures complete { (asked : Asked) → Asks (map string_bytes words.now) asked
+        → CanDo asked (outside S.Source K.Sink D.Disk C.Clock) rig → NothingFailed (outside S.Source K.Sink D.Disk C.Clock) rig result.rig
+        → IsDone asked result.status }
 {
     match asked_of(words) {
-        Some(Asked::Print { zone }) => print_over(alloc, zone, rig),
-        Some(Asked::Create) => create_over(alloc, rig),
-        Some(Asked::Run) => run_over(alloc, rig),
-        Some(
-            Asked::Extract {
-                period: Some(period),
-            },
-        ) => extract_over(alloc, period, rig),
-        Some(Asked::Extract { period: None }) => refuse_period(rig),
-        Some(Asked::Receipt { nsr }) => receipt_over(alloc, nsr, rig),
-        Some(Asked::Drill) => drill_over(alloc, rig),
+        Some(asked) => do_asked(alloc, asked, rig),
         None => refuse(rig),
+    }
+}
+
+/// Does what is asked, over the rig.
+fn do_asked<S: Source, K: Sink, D: Disk, C: Clock>(
+    alloc: Global,
+    asked: Asked,
+    rig: Rig<S, K, D, C>,
+) -> Outcome<S, K, D, C>
+    requires askable { IsAskable asked }
+    requires rigged { IsRiggedFor asked rig }
+    ensures rigged { IsRiggedFor asked result.rig }
+    ensures does { Does asked (outside S.Source K.Sink D.Disk C.Clock) rig result.rig result.status }
+    ensures told { TellsFaults (outside S.Source K.Sink D.Disk C.Clock) rig result.rig result.status }
+    ensures complete { CanDo asked (outside S.Source K.Sink D.Disk C.Clock) rig → NothingFailed (outside S.Source K.Sink D.Disk C.Clock) rig result.rig → IsDone asked result.status }
+    ensures on_grammar { result.status ≢ 2 }
+{
+    match asked {
+        Asked::Print { zone } => print_over(alloc, zone, rig),
+        Asked::Create => create_over(alloc, rig),
+        Asked::Run => run_over(alloc, rig),
+        Asked::Extract {
+            period: Some(period),
+        } => extract_over(alloc, period, rig),
+        Asked::Extract { period: None } => refuse_period(rig),
+        Asked::Receipt { nsr } => receipt_over(alloc, nsr, rig),
+        Asked::Drill => drill_over(alloc, rig),
     }
 }

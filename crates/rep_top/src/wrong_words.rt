@@ -1,12 +1,14 @@
 //! Words that are those of no command, and dates that name no period.
-ghost use Rattle.std.specs.Prelude.{◌≡◌};
-ghost use Rattle.rep_top.specs.Program.{Refuses, RefusesDates, sense_of};
+ghost use Rattle.std.specs.Prelude.{◌≡◌, ◌≢◌, None};
+ghost use Rattle.rep_top.specs.Program.{NothingFailed, Refuses, TellsFaults, outside};
+ghost use Rattle.rep_top.specs.Commands.{IsExtractRig};
+ghost use Rattle.rep_top.specs.Asking.{CanDo, Does, IsDone};
 
 use rep_disk::Disk;
 use rep_io::{Clock, Sink, Source};
 use rep_query::refuse_dates;
 use rep_report::{fault_line, say};
-use rep_words::{Outcome, Rig};
+use rep_words::{Asked, Outcome, Rig};
 
 /// The status where the words are those of no command.
 const WRONG_WORDS: u8 = 2;
@@ -16,7 +18,7 @@ pub(crate) fn refuse<S: Source, K: Sink, D: Disk, C: Clock>(
     mut rig: Rig<S, K, D, C>,
 ) -> Outcome<S, K, D, C>
     ensures status { result.status ≡ 2 }
-    ensures refuses { Refuses (sense_of S.left S.faults K.written K.faults D.shown C.readings C.faults) rig result.rig }
+    ensures refuses { Refuses (outside S.Source K.Sink D.Disk C.Clock) rig result.rig }
 {
     say(&fault_line(WRONG_WORDS), &mut rig.out);
     Outcome {
@@ -29,8 +31,13 @@ pub(crate) fn refuse<S: Source, K: Sink, D: Disk, C: Clock>(
 pub(crate) fn refuse_period<S: Source, K: Sink, D: Disk, C: Clock>(
     mut rig: Rig<S, K, D, C>,
 ) -> Outcome<S, K, D, C>
-    ensures status { result.status ≡ 3 }
-    ensures refuses { RefusesDates (sense_of S.left S.faults K.written K.faults D.shown C.readings C.faults) rig result.rig }
+    requires rigged { IsExtractRig rig }
+    ensures rigged { IsExtractRig result.rig }
+    ensures does { Does (Asked.Extract None) (outside S.Source K.Sink D.Disk C.Clock) rig result.rig result.status }
+    ensures told { TellsFaults (outside S.Source K.Sink D.Disk C.Clock) rig result.rig result.status }
+    ensures complete { CanDo (Asked.Extract None) (outside S.Source K.Sink D.Disk C.Clock) rig → NothingFailed (outside S.Source K.Sink D.Disk C.Clock) rig result.rig
+        → IsDone (Asked.Extract None) result.status }
+    ensures on_grammar { result.status ≢ 2 }
 {
     let status = refuse_dates(&mut rig.out);
     Outcome { rig, status }

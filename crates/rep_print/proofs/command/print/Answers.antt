@@ -1,8 +1,12 @@
-use Rattle.std.proofs.Common.{◌≡◌, ◌∙◌, ℕ, List, ℤ, inl, inr, length, sym, ap, subst, rules}
+use Rattle.std.proofs.Common.{◌≡◌, ◌∙◌, ℕ, List, Option, ℤ, inl, inr, length, sym, ap, subst, rules}
+use Rattle.rep_io.specs.Causes.{Rose}
+use Rattle.rep_print.specs.Printing.{Prints}
 use Rattle.rep_print.specs.Steps.{Told}
+use Rattle.rep_report.specs.declared.ending.Ending.TheVariants.{ClockFault}
+use Rattle.rep_print.specs.declared.ending.PrintEnding.TheVariants.{Served}
 use Rattle.rep_print.specs.Ending.{status_of}
 use Rattle.rep_print.specs.Written.{Printed}
-use Rattle.rep_print.proofs.StatusLemmas.{done_employer, no_device, told_kind, statuses, completes}
+use Rattle.rep_print.proofs.StatusLemmas.{done_employer, no_device, told_kind, source_told, sink_told, clock_told, clock_stays, statuses, completes}
 use Rattle.rep_print.proofs.PrintLemmas.{printed}
 use Rattle.rep_print.proofs.command.print.Goals as goal
 
@@ -46,8 +50,30 @@ returns-clause-sink_fault g c = search rules
 pub returns-clause-clock_fault : goal.returns-clause-clock_fault
 returns-clause-clock_fault g c = search rules
 
+pub returns-clause-no_source_fault : goal.returns-clause-no_source_fault
+returns-clause-no_source_fault g c not_source not_sink =
+    let same = c.serve-lane.ensures.no_source_fault (λ source.
+    elim (source_told _ _ _ _ _ _ c.serve-lane.result.ending c.close-ending.result c.tell-told.result c.status.result c.close-ending.ensures.closes
+    (told_kind _ _ _ _ _ _ _ c.tell-told.ensures.told) c.status.ensures source) [ inl four ↦ not_source four | inr five ↦ not_sink five ]) in
+    search rules
+
+pub returns-clause-no_file_fault : goal.returns-clause-no_file_fault
+returns-clause-no_file_fault g c not_sink =
+    c.close-ending.ensures.no_file_fault (λ sink.
+    not_sink (sink_told c.close-ending.result c.tell-told.result c.status.result (told_kind _ _ _ _ _ _ _ c.tell-told.ensures.told) c.status.ensures sink))
+
+pub returns-clause-no_clock_fault : goal.returns-clause-no_clock_fault
+returns-clause-no_clock_fault g c not_clock not_sink =
+    let other : c.close-ending.result ≡ Served ClockFault → ⊥ = λ clock.
+    elim (clock_told c.close-ending.result c.tell-told.result c.status.result (told_kind _ _ _ _ _ _ _ c.tell-told.ensures.told) c.status.ensures clock) [ inl seven ↦ not_clock seven | inr five ↦ not_sink five ] in
+    let closing = c.close-ending.ensures.no_clock_fault other in
+    let lane = c.serve-lane.ensures.no_clock_fault (λ clock. other (clock_stays _ _ _ _ _ _ c.serve-lane.result.ending c.close-ending.result c.close-ending.ensures.closes clock)) in
+    ap g.C.Clock.faults c.into_clock.ensures ∙ closing ∙ lane ∙ ap g.C.Clock.faults c.new-desk.ensures.clock
+
 pub returns-clause-complete : goal.returns-clause-complete
 returns-clause-complete g c text told printable no_source no_clock no_file no_out =
     let whole = returns-clause-printed g c in
     completes text c.status.result printable (λ at. no_source (returns-clause-source_fault g c at)) (λ at. (elim (returns-clause-sink_fault g c at) [ inl file ↦ no_file file | inr out ↦ no_out out ]))
-    (λ at. no_clock (returns-clause-clock_fault g c at)) whole.given whole.into_file whole.said _ _ _ _ (whole.prints text told)
+    (λ at. no_clock (returns-clause-clock_fault g c at)) whole.given whole.into_file whole.said _ _ _ _
+    (subst (λ (t : Option (List ℕ)). Prints c.args.zone t c.status.result whole.given whole.into_file whole.said (c.close-ending.new.file ≡ c.args.file)
+    (Rose (g.K.Sink.faults c.args.file) (g.K.Sink.faults c.close-ending.new.file)) (g.K.Sink.faults c.args.out) (g.K.Sink.faults c.tell-told.new.out)) told whole.prints)

@@ -1,5 +1,5 @@
 use Rattle.std.proofs.Common.{[], refl}
-use Rattle.rep_print.proofs.LaneLemmas.{headless}
+use Rattle.rep_print.proofs.LaneLemmas.{headless, if_some}
 use Rattle.rep_print.proofs.lane.serve.Goals as goal
 
 pub returns-in-Ok-clause-laned : goal.returns-in-Ok-clause-laned
@@ -7,14 +7,13 @@ returns-in-Ok-clause-laned g c =
     let l = c.serve_lines.ensures.laned in record {
       zone = l.zone;
       answers = l.answers;
-      some = l.some;
       whole = l.whole;
       next = l.next;
       said = l.said;
       replied = l.replied;
       tally_is = l.tally_is;
       has = l.has;
-      text = λ text r. l.text text (c.in-Ok.ensures.heads text r);
+      of_lane = λ text told. l.of_lane text (if_some _ _ text c.in-Ok.ensures.heads told);
     }
 
 pub returns-in-Err-clause-laned : goal.returns-in-Err-clause-laned

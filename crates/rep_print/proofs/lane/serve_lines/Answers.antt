@@ -19,6 +19,11 @@ returns-in-Err-clause-clock_fault g c =
     (clock_moves g.S.Source.left g.C.Clock.readings g.C.Clock.faults c.args.head.now c.args.lines c.begin.new.lines c.args.desk.now c.begin.new.desk _ _ (record { lines = 0; receipts = 0; refused = 0 })
     c.requires.empty refl c.in-Err.ending c.in-Err.ensures.begins).1
 
+pub returns-in-Err-clause-no_clock_fault : goal.returns-in-Err-clause-no_clock_fault
+returns-in-Err-clause-no_clock_fault g c =
+    (clock_moves g.S.Source.left g.C.Clock.readings g.C.Clock.faults c.args.head.now c.args.lines c.begin.new.lines c.args.desk.now c.begin.new.desk _ _ (record { lines = 0; receipts = 0; refused = 0 })
+    c.requires.empty refl c.in-Err.ending c.in-Err.ensures.begins).2
+
 pub returns-in-Ok-clause-laned : goal.returns-in-Ok-clause-laned
 returns-in-Ok-clause-laned g c =
     gone_on g.S.Source.left g.C.Clock.readings g.C.Clock.faults c.args.head.now c.in-Ok.kind c.args.lines c.begin.new.lines c.args.desk.now c.begin.new.desk c.go_on.new.desk
@@ -33,6 +38,11 @@ pub returns-in-Ok-clause-clock_fault : goal.returns-in-Ok-clause-clock_fault
 returns-in-Ok-clause-clock_fault g c =
     (clock_goes g.S.Source.left g.C.Clock.readings g.C.Clock.faults c.args.head.now c.in-Ok.kind c.args.lines c.begin.new.lines c.args.desk.now c.begin.new.desk c.go_on.new.desk
     _ _ _ c.go_on.result.tally c.go_on.result.ending c.requires.empty c.in-Ok.ensures.begins c.go_on.ensures.goes_on).1
+
+pub returns-in-Ok-clause-no_clock_fault : goal.returns-in-Ok-clause-no_clock_fault
+returns-in-Ok-clause-no_clock_fault g c =
+    (clock_goes g.S.Source.left g.C.Clock.readings g.C.Clock.faults c.args.head.now c.in-Ok.kind c.args.lines c.begin.new.lines c.args.desk.now c.begin.new.desk c.go_on.new.desk
+    _ _ _ c.go_on.result.tally c.go_on.result.ending c.requires.empty c.in-Ok.ensures.begins c.go_on.ensures.goes_on).2
 
 pub returns-in-Err-clause-unread : goal.returns-in-Err-clause-unread
 returns-in-Err-clause-unread g c =

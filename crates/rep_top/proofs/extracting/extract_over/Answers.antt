@@ -1,48 +1,34 @@
-use Rattle.std.proofs.Common.{rules, ◌≡◌, ◌⊎◌, Some, ⊎_elim, ◌∙◌, sym}
-use Rattle.rep_io.specs.Causes.{Rose}
-use Rattle.rep_ledger.specs.Ledger.{IsLedgerOf}
-use Rattle.rep_run.specs.Settings.{SaysSite}
-use Rattle.rep_query.specs.Extract.{Extracted}
-use Rattle.rep_top.proofs.Moved.{moved_four}
+use Rattle.std.proofs.Common.{rules, ◌≡◌, Some, ⊎_elim, ◌∙◌, refl, sym, ap, inl}
+use Rattle.rep_top.proofs.Rising.{one_kept, one_rose, file_rose, that_kept, that_rose}
 use Rattle.rep_top.proofs.Statuses.{ending_isnt_two, stopping_isnt_two}
 use Rattle.rep_top.proofs.extracting.extract_over.Goals as goal
 
-pub returns-clause-statuses : goal.returns-clause-statuses
-returns-clause-statuses g c two =
+pub returns-clause-on_grammar : goal.returns-clause-on_grammar
+returns-clause-on_grammar g c two =
     ⊎_elim (λ early. stopping_isnt_two early.stopping (sym early.status_is ∙ two)) (λ written. ending_isnt_two written.told (sym written.status_is ∙ two)) c.extract-done.ensures.extracted
 
-pub returns-clause-extracted : goal.returns-clause-extracted
-returns-clause-extracted g c before after =
-    let site : c.in-Some.site ≡ before.site = search rules in
-    let file : c.in-Some-pop.file ≡ before.file = search rules in
-    let drive : c.in-Some-disk.disk ≡ before.drive = search rules in
-    let watch : c.in-Some-clock.clock ≡ before.watch = search rules in
-    let site_now : c.extract-done.result.site ≡ after.site = search rules in
-    let file_now : c.extract-done.result.file ≡ after.file = search rules in
-    let drive_now : c.extract-done.result.disk ≡ after.drive = search rules in
-    let watch_now : c.extract-done.result.clock ≡ after.watch = search rules in
-    moved_four (λ s f d k. Extracted (record { left = g.S.Source.left; source_faults = g.S.Source.faults; shown = g.D.Disk.shown; readings = g.C.Clock.readings; clock_faults = g.C.Clock.faults; written = g.K.Sink.written; sink_faults = g.K.Sink.faults }) c.args.period.from c.args.period.to (record { site = s; disk = d; clock = k; file = f }) (record { site = after.site; disk = after.drive; clock = after.watch; file = after.file }) (g.K.Sink.written c.args.rig.out) (g.K.Sink.written c.extract-done.result.out) (g.K.Sink.faults c.args.rig.out) (g.K.Sink.faults c.extract-done.result.out) c.extract-done.result.status) site file drive watch
-    (moved_four (λ s f d k. Extracted (record { left = g.S.Source.left; source_faults = g.S.Source.faults; shown = g.D.Disk.shown; readings = g.C.Clock.readings; clock_faults = g.C.Clock.faults; written = g.K.Sink.written; sink_faults = g.K.Sink.faults }) c.args.period.from c.args.period.to (record { site = c.in-Some.site; disk = c.in-Some-disk.disk; clock = c.in-Some-clock.clock; file = c.in-Some-pop.file }) (record { site = s; disk = d; clock = k; file = f }) (g.K.Sink.written c.args.rig.out) (g.K.Sink.written c.extract-done.result.out) (g.K.Sink.faults c.args.rig.out) (g.K.Sink.faults c.extract-done.result.out) c.extract-done.result.status) site_now file_now drive_now watch_now
-    c.extract-done.ensures.extracted)
-
 pub returns-clause-complete : goal.returns-clause-complete
-returns-clause-complete g c text contents own history before after =
-    let site : c.in-Some.site ≡ before.site = search rules in
-    let file : c.in-Some-pop.file ≡ before.file = search rules in
-    let drive : c.in-Some-disk.disk ≡ before.drive = search rules in
-    let watch : c.in-Some-clock.clock ≡ before.watch = search rules in
-    let site_now : c.extract-done.result.site ≡ after.site = search rules in
-    let file_now : c.extract-done.result.file ≡ after.file = search rules in
-    let drive_now : c.extract-done.result.disk ≡ after.drive = search rules in
-    let watch_now : c.extract-done.result.clock ≡ after.watch = search rules in
-    moved_four (λ s f d k. g.S.Source.left s ≡ Some text → SaysSite text own → (g.D.Disk.shown d).contents ≡ Some contents → IsLedgerOf contents history
-    → ¬ Rose (g.S.Source.faults s) (g.S.Source.faults after.site) → ¬ Rose (g.C.Clock.faults k) (g.C.Clock.faults after.watch)
-    → ¬ Rose (g.K.Sink.faults f) (g.K.Sink.faults after.file) → ¬ Rose (g.K.Sink.faults c.args.rig.out) (g.K.Sink.faults c.extract-done.result.out)
-    → ¬ Rose (g.D.Disk.shown d).faults (g.D.Disk.shown after.drive).faults
-    → (c.extract-done.result.status ≡ 0) ⊎ (c.extract-done.result.status ≡ 8)) site file drive watch
-    (moved_four (λ s f d k. g.S.Source.left c.in-Some.site ≡ Some text → SaysSite text own → (g.D.Disk.shown c.in-Some-disk.disk).contents ≡ Some contents → IsLedgerOf contents history
-    → ¬ Rose (g.S.Source.faults c.in-Some.site) (g.S.Source.faults s) → ¬ Rose (g.C.Clock.faults c.in-Some-clock.clock) (g.C.Clock.faults k)
-    → ¬ Rose (g.K.Sink.faults c.in-Some-pop.file) (g.K.Sink.faults f) → ¬ Rose (g.K.Sink.faults c.args.rig.out) (g.K.Sink.faults c.extract-done.result.out)
-    → ¬ Rose (g.D.Disk.shown c.in-Some-disk.disk).faults (g.D.Disk.shown d).faults
-    → (c.extract-done.result.status ≡ 0) ⊎ (c.extract-done.result.status ≡ 8)) site_now file_now drive_now watch_now
-    (c.extract-done.ensures.complete text contents own history))
+returns-clause-complete g c can none =
+    let site : c.in-Some.site ≡ can.parts.site = search rules in
+    let drive : c.in-Some-disk.disk ≡ can.parts.drive = search rules in
+    let told : g.S.Source.left c.in-Some.site ≡ Some can.text = ap g.S.Source.left site ∙ can.told in
+    let there : (g.D.Disk.shown c.in-Some-disk.disk).contents ≡ Some can.contents = ap (λ d. (g.D.Disk.shown d).contents) drive ∙ can.there in
+    c.extract-done.ensures.complete can.text can.contents can.site can.history told can.said there can.keeps
+    (λ rose. none.sources (one_rose g.S.Source.faults _ _ c.in-Some.site c.extract-done.result.site (search rules) (search rules) rose))
+    (λ rose. none.clock (that_rose g.C.Clock.faults _ _ c.in-Some-clock.clock c.extract-done.result.clock (search rules) (search rules) rose))
+    (λ rose. none.sinks (file_rose g.K.Sink.faults _ _ c.in-Some-pop.file c.extract-done.result.file _ _ (search rules) (search rules) rose))
+    (λ rose. none.sinks (inl rose))
+    (λ rose. none.disk (that_rose (λ d. (g.D.Disk.shown d).faults) _ _ c.in-Some-disk.disk c.extract-done.result.disk (search rules) (search rules) rose))
+
+pub returns-clause-told : goal.returns-clause-told
+returns-clause-told g c = record {
+  source = λ e. one_rose g.S.Source.faults _ _ c.in-Some.site c.extract-done.result.site (search rules) (search rules) (c.extract-done.ensures.source_fault e);
+  sink = λ e. ⊎_elim (λ rose. file_rose g.K.Sink.faults _ _ c.in-Some-pop.file c.extract-done.result.file _ _ (search rules) (search rules) rose) (λ rose. inl rose)
+      (c.extract-done.ensures.sink_fault e);
+  device = λ e. that_rose (λ d. (g.D.Disk.shown d).faults) _ _ c.in-Some-disk.disk c.extract-done.result.disk (search rules) (search rules) (c.extract-done.ensures.device_fault e);
+  clock = λ e. that_rose g.C.Clock.faults _ _ c.in-Some-clock.clock c.extract-done.result.clock (search rules) (search rules) (c.extract-done.ensures.clock_fault e);
+  no_source = λ a b. one_kept g.S.Source.faults c.args.rig.texts.items c.push_reserved.new.self.items c.in-Some.site c.extract-done.result.site (search rules) (search rules) (c.extract-done.ensures.no_source_fault a b);
+  no_file = λ a. one_kept g.K.Sink.faults c.args.rig.outs.items c.push_reserved-2.new.self.items c.in-Some-pop.file c.extract-done.result.file (search rules) (search rules) (c.extract-done.ensures.no_sink_fault a);
+  no_device = λ a b. that_kept (λ d. (g.D.Disk.shown d).faults) c.args.rig.disk (Some c.extract-done.result.disk) c.in-Some-disk.disk c.extract-done.result.disk (search rules) refl (c.extract-done.ensures.no_device_fault a b);
+  no_clock = λ a b. that_kept g.C.Clock.faults c.args.rig.clock (Some c.extract-done.result.clock) c.in-Some-clock.clock c.extract-done.result.clock (search rules) refl (c.extract-done.ensures.no_clock_fault a b);
+}

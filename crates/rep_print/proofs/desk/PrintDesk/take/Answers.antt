@@ -47,4 +47,4 @@ returns g c =
     let stamped : c.in-Some.now ≡ moment_at c.in-Ok.minute c.self.inside.zone = search rules in
     taken g.C.Clock.readings g.C.Clock.faults c.args.q.now c.args.self.now c.self.inside.core c.take_room.new.core c.put_entry.new.core c.self.inside.clock c.now.new.self c.self.inside.zone
     c.in-Ok.minute c.in-Some.now c.receipt.result c.self.view_is c.self.invariant.limit c.requires.fresh c.take_room.ensures.core c.take_room.ensures.limit
-    c.in-Ok.ensures.reading.0 c.in-Ok.ensures.reading.1 c.now.ensures.cause.later stamped c.put_entry.ensures.recorded c.put_entry.ensures.limit c.receipt.ensures
+    c.in-Ok.ensures.reading.0 c.in-Ok.ensures.reading.1 c.in-Ok.ensures.cause.kept stamped c.put_entry.ensures.recorded c.put_entry.ensures.limit c.receipt.ensures

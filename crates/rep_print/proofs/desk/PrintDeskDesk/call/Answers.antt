@@ -10,7 +10,7 @@ pub take-requires-clause-fresh : goal.take-requires-clause-fresh
 take-requires-clause-fresh g c =
     let core = c.self.inside.core in
     verdict_at _ _ _ _ c.args.q.now Fresh
-    (subst (λ v. IsVerdict core.limit core.entries c.args.q.now v) c.in-Fresh.is (c.decide.ensures core.entries (Stands-own core)))
+    (subst (λ v. IsVerdict core.limit core.entries c.args.q.now v) c.in-Fresh.is (c.decide.ensures.exact core.entries (Stands-own core) (c.kept.ensures.came core.entries (Stands-own core))))
     c.self.invariant.limit (ap (λ s. s.history) c.self.view_is)
 
 pub returns-in-Fresh-clause-no_sink_fault : goal.returns-in-Fresh-clause-no_sink_fault
@@ -20,4 +20,4 @@ pub returns-in_default-clause-answers : goal.returns-in_default-clause-answers
 returns-in_default-clause-answers g c =
     let core = c.self.inside.core in
     settled g.C.Clock.readings g.C.Clock.faults c.args.q.now c.args.self.now core c.decide.result c.reply.result (ap (λ s. s.history) c.self.view_is) c.self.invariant.limit
-    c.decide.ensures c.in_default.not-Fresh c.reply.ensures
+    (λ h stands. c.decide.ensures.exact h stands (c.kept.ensures.came h stands)) c.in_default.not-Fresh c.reply.ensures

@@ -46,7 +46,7 @@ returns-clause-puts g c =
     let due = due_of zone core.entries c.args.from c.args.to minute head text headed whole in
     let reading = c.in-Ok.ensures.reading in
     let takes = takes_of g.C.Clock.readings g.C.Clock.faults c.args.from c.args.to c.args.self.now core.entries c.self.inside.clock c.now.new.self zone c.self.view_is
-    minute c.count.result text reading.0 reading.1 c.now.ensures.cause.later (c.count.ensures.value core.entries (Stands-own core)) due in
+    minute c.count.result text reading.0 reading.1 c.in-Ok.ensures.cause.kept (c.count.ensures.value core.entries (Stands-own core)) due in
     let new = ticked g.C.Clock.readings g.C.Clock.faults c.args.from c.args.to c.args.self.now core.entries c.self.inside.clock c.now.new.self zone c.self.view_is in
     elim c.match-put_extraction.branch [
       | in-Ok-put_extraction w ↦
