@@ -16,22 +16,21 @@ use Rattle.std.proofs.lemmas.Map.Lookups.{CmpEqualImpliesEq, exact_unsigned, exa
 use Rattle.std.proofs.lemmas.Option.{same_Some}
 use Rattle.std.specs.Cmp.{IsTotalOrder}
 use Rattle.tr_plan.specs.Index.{HasEnds, day_cmp}
-use Rattle.tr_plan.specs.Link.{BeginsFirst}
-use Rattle.tr_plan.specs.Plan.{DoOverlap, AreApart}
+use Rattle.tr_plan.specs.Link.{BeginsFirst, DoOverlap, AreApart}
 use Rattle.tr_plan.specs.declared.link.Link.{Link}
 use Rattle.tr_plan.proofs.IndexLemmas.{Any-more}
 
-day_cmp_total : IsTotalOrder day_cmp
+pub day_cmp_total : IsTotalOrder day_cmp
 day_cmp_total = then_total (on_total (λ (x : ℕ × ℕ). x.0) nat_cmp_total) (on_total (λ (x : ℕ × ℕ). x.1) nat_cmp_total)
 
-exact_days : CmpEqualImpliesEq day_cmp
+pub exact_days : CmpEqualImpliesEq day_cmp
 exact_days = exact_pairs nat_cmp nat_cmp exact_unsigned exact_unsigned
 
 -- what the order says of two pairs
-abbrev IsUpTo : ℕ × ℕ → ℕ × ℕ → Type 0
+abbrev pub IsUpTo : ℕ × ℕ → ℕ × ℕ → Type 0
 IsUpTo a b = (a.0 < b.0) ⊎ ((a.0 ≡ b.0) × (a.1 ≤ b.1))
 
-up_to : (a b : ℕ × ℕ) → is_gt (day_cmp a b) ≡ false → IsUpTo a b
+pub up_to : (a b : ℕ × ℕ) → is_gt (day_cmp a b) ≡ false → IsUpTo a b
 up_to a b upto =
     by_ranked (a.0 < b.0) (a.0 ≡ b.0) (b.0 < a.0) (nat_cmp a.0 b.0) (ranked a.0 b.0 (nat_cmp a.0 b.0) refl)
     (λ _ less. inl less)
@@ -41,7 +40,7 @@ up_to a b upto =
     (λ more _. absurd (false≢true (sym upto ∙ ap (λ o. is_gt (ordering_then o (nat_cmp a.1 b.1))) is ∙ ap is_gt more))))
     (λ more _. absurd (false≢true (sym upto ∙ ap (λ o. is_gt (ordering_then o (nat_cmp a.1 b.1))) more)))
 
-not_below : (a b : ℕ × ℕ) → is_lt (day_cmp a b) ≡ false → IsUpTo b a
+pub not_below : (a b : ℕ × ℕ) → is_lt (day_cmp a b) ≡ false → IsUpTo b a
 not_below a b above =
     by_ranked (a.0 < b.0) (a.0 ≡ b.0) (b.0 < a.0) (nat_cmp a.0 b.0) (ranked a.0 b.0 (nat_cmp a.0 b.0) refl)
     (λ less _. absurd (false≢true (sym above ∙ ap (λ o. is_lt (ordering_then o (nat_cmp a.1 b.1))) less)))
@@ -51,7 +50,7 @@ not_below a b above =
     (λ _ more. inr (sym same, omega arith)))
     (λ _ more. inl more)
 
-within_cpf : (cpf since until : ℕ) → since ≤ until → is_gt (day_cmp (cpf, since) (cpf, until)) ≡ false
+pub within_cpf : (cpf since until : ℕ) → since ≤ until → is_gt (day_cmp (cpf, since) (cpf, until)) ≡ false
 within_cpf cpf since until order =
     by_ranked (since < until) (since ≡ until) (until < since) (nat_cmp since until) (ranked since until (nat_cmp since until) refl)
     (λ less _. ap (λ o. is_gt (ordering_then o (nat_cmp since until))) (tied_itself nat_cmp_total cpf) ∙ ap is_gt less)
@@ -110,16 +109,16 @@ HasEnds-more old new links link has firsts first apart updates = record {
         Any-more (is_that cpf since until) links link (has.found cpf since until
         (sym (updates.0 (cpf, since) ∙ ap (λ o. cond (is_eq o) (Some link.until) (tree.get day_cmp old (cpf, since))) is) ∙ there))
 
--- the entry is the last one of its CPF that begins by the link's last day
-pub record IsLatest (ends : BTreeMap (ℕ × ℕ) ℕ) (link : Link) (latest : (ℕ × ℕ) × ℕ) : Type 0 where
-  pub within : is_gt (day_cmp latest.0 (link.cpf, link.until)) ≡ false
+-- the entry is the last one of the CPF that begins by the day, or one of a lower CPF
+pub record IsLatest (ends : BTreeMap (ℕ × ℕ) ℕ) (bound : ℕ × ℕ) (latest : (ℕ × ℕ) × ℕ) : Type 0 where
+  pub within : is_gt (day_cmp latest.0 bound) ≡ false
   pub there : tree.get day_cmp ends latest.0 ≡ Some latest.1
-  pub last : (q : ℕ × ℕ) → is_gt (day_cmp q (link.cpf, link.until)) ≡ false → IsSome (tree.get day_cmp ends q) → is_lt (day_cmp latest.0 q) ≡ false
+  pub last : (q : ℕ × ℕ) → is_gt (day_cmp q bound) ≡ false → IsSome (tree.get day_cmp ends q) → is_lt (day_cmp latest.0 q) ≡ false
 
 -- the last one of a range is it
-pub latest_of : (ends : BTreeMap (ℕ × ℕ) ℕ) (link : Link) (entries before : List ((ℕ × ℕ) × ℕ)) (latest : (ℕ × ℕ) × ℕ)
-    → IsRangeOf day_cmp Unbounded (Included (link.cpf, link.until)) ends entries → entries ≡ before ++ latest ∷ [] → IsLatest ends link latest
-latest_of ends link entries before latest range is =
+pub latest_of : (ends : BTreeMap (ℕ × ℕ) ℕ) (bound : ℕ × ℕ) (entries before : List ((ℕ × ℕ) × ℕ)) (latest : (ℕ × ℕ) × ℕ)
+    → IsRangeOf day_cmp Unbounded (Included bound) ends entries → entries ≡ before ++ latest ∷ [] → IsLatest ends bound latest
+latest_of ends bound entries before latest range is =
     let entry = range.3 latest before is in
     record {
       within = entry.0.1;
@@ -129,7 +128,7 @@ latest_of ends link entries before latest range is =
 
 -- a link that holds on the last day of the latest one, or before it, meets it
 pub meets_latest : (ends : BTreeMap (ℕ × ℕ) ℕ) (links : List Link) (link : Link) (latest : (ℕ × ℕ) × ℕ) → HasEnds ends links
-    → IsLatest ends link latest → latest.0.0 ≡ link.cpf → link.since ≤ latest.1 → Any (λ other. DoOverlap other link) links
+    → IsLatest ends (link.cpf, link.until) latest → latest.0.0 ≡ link.cpf → link.since ≤ latest.1 → Any (λ other. DoOverlap other link) links
 meets_latest ends links link latest has is same order = found (has.found latest.0.0 latest.0.1 latest.1 is.there)
   where
     meets : (other : Link) → (other.cpf ≡ latest.0.0) × (other.since ≡ latest.0.1) × (other.until ≡ latest.1)
@@ -151,7 +150,7 @@ begins_within other link met =
 
 -- where the link lies behind the latest one's last day, it meets none
 pub behind_latest : (ends : BTreeMap (ℕ × ℕ) ℕ) (links : List Link) (link : Link) (latest : (ℕ × ℕ) × ℕ) → HasEnds ends links
-    → All BeginsFirst links → AllPairs AreApart links → IsLatest ends link latest → (latest.0.0 ≡ link.cpf → latest.1 < link.since)
+    → All BeginsFirst links → AllPairs AreApart links → IsLatest ends (link.cpf, link.until) latest → (latest.0.0 ≡ link.cpf → latest.1 < link.since)
     → All (λ other. AreApart other link) links
 behind_latest ends links link latest has firsts apart is behind = λ k d within met.
     let other = get_or links k d in

@@ -11,22 +11,21 @@ use Rattle.std.specs.List.{list_any}
 use Rattle.std.proofs.Math.ListN.{get_or-append}
 use Rattle.std.proofs.Math.Seq.{get_or-append_seam}
 use Rattle.std.proofs.lemmas.Bool.{cases_Bool, cases_order, false≢true}
-use Rattle.std.proofs.lemmas.Cmp.{tied_itself, nat_cmp_total, nat_list_cmp_total}
+use Rattle.std.proofs.lemmas.Cmp.{tied_itself, nat_list_cmp_total}
 use Rattle.std.proofs.lemmas.List.{length_push, get_or_default}
 use Rattle.std.proofs.lemmas.Option.{same_Some}
 use Rattle.std.specs.Map.{lookup}
 use Rattle.std.proofs.lemmas.List.Elements.{Contains-get_or, Contains-push_cases, Contains-append_left}
 use Rattle.std.proofs.lemmas.List.Quantifiers.{Any-push}
-use Rattle.std.proofs.lemmas.Map.Lookups.{CmpEqualImpliesEq, exact_unsigned, exact_bytes}
+use Rattle.std.proofs.lemmas.Map.Lookups.{CmpEqualImpliesEq, exact_bytes}
 use Rattle.rep_fields.specs.Latin.{IsText, padded}
 use Rattle.rep_fields.proofs.Texts.{padded-injective}
-use Rattle.tr_plan.specs.Index.{HasPlaces, HasNsrs, HasCodes}
+use Rattle.tr_plan.specs.Index.{HasPlacesBy, HasCodes}
 use Rattle.rep_fields.specs.Moment.{Moment}
 use Rattle.tr_plan.specs.Include.{IsLinkId, IsInForce}
 use Rattle.tr_plan.specs.Link.{IsNewId, IsInDates, journey_day}
 use Rattle.tr_plan.specs.Plan.{HaveDifferentIds}
 use Rattle.tr_plan.specs.Schedule.{IsNewCode}
-use Rattle.tr_plan.specs.declared.disregard.Disregard.{Disregard}
 use Rattle.tr_plan.specs.declared.link.Link.{Link}
 use Rattle.tr_plan.specs.declared.schedule.Schedule.{Schedule}
 
@@ -71,24 +70,6 @@ module _ {K : Type 0} (R : K → K → Ordering) (total : IsTotalOrder R) (exact
   pub contains-new : (old new : BTreeSet K) (key : K) → set.Updates R old new key true → set.contains R new key ≡ true
   contains-new old new key updates = updates.0 key ∙ ap (λ o. cond (is_eq o) true (set.contains R old key)) (tied_itself total key)
 
--- the numbers of disregards
-pub HasNsrs-none : (nsrs : BTreeSet ℕ) → set.IsEmpty nsrs → HasNsrs nsrs []
-HasNsrs-none nsrs empty nsr =
-    (λ there. absurd (false≢true (sym (ap (list_any _) empty) ∙ there)), λ (k, x, within, is, p). absurd (omega arith))
-
-pub HasNsrs-more : (old new : BTreeSet ℕ) (disregards : List Disregard) (disregard : Disregard) → HasNsrs old disregards
-    → set.Updates nat_cmp old new disregard.nsr true → HasNsrs new (disregards ++ disregard ∷ [])
-HasNsrs-more old new disregards disregard has updates nsr = (
-  λ there. elim (contains-inserted nat_cmp nat_cmp_total exact_unsigned old new disregard.nsr nsr updates there) [
-    | inl same ↦ Any-push (λ d. d.nsr ≡ nsr) disregards disregard same
-    | inr before ↦ Any-more (λ d. d.nsr ≡ nsr) disregards disregard ((has nsr).0 before)
-  ],
-  λ any. elim (Any-push_cases (λ d. d.nsr ≡ nsr) disregards disregard any) [
-    | inl before ↦ contains-kept nat_cmp nat_cmp_total exact_unsigned old new disregard.nsr nsr updates ((has nsr).1 before)
-    | inr last ↦ subst (λ n. set.contains nat_cmp new n ≡ true) last (contains-new nat_cmp nat_cmp_total exact_unsigned old new disregard.nsr updates)
-  ],
-)
-
 -- the codes of schedules
 pub HasCodes-none : (codes : BTreeSet (List ℕ)) → set.IsEmpty codes → HasCodes codes []
 HasCodes-none codes empty code is_text =
@@ -119,39 +100,28 @@ pub code_new : (codes : BTreeSet (List ℕ)) (schedules : List Schedule) (code :
 code_new codes schedules code has is_text none =
     none-from_not_any (λ s. s.code ≡ code) schedules (λ any. false≢true (sym none ∙ (has code is_text).1 any))
 
--- the places of links by their ids
-pub HasPlaces-none : (places : BTreeMap ℕ ℕ) → tree.IsEmpty places → HasPlaces places []
-HasPlaces-none places empty = record {
-  known = λ id (k, x, within, is, p). absurd (omega arith);
-  found = λ id place there. let none : tree.get nat_cmp places id ≡ None = ap (lookup (tree.is_at (nat_cmp id))) empty in
-      let same = sym none ∙ there in absurd (cc);
-}
+-- the places of rows by their keys
+module _ {X K : Type 0} (R : K → K → Ordering) (key : X → K) where
+  pub HasPlacesBy-none : (places : BTreeMap K ℕ) → tree.IsEmpty places → HasPlacesBy R key places []
+  HasPlacesBy-none places empty = record {
+    known = λ k (j, x, within, is, p). absurd (omega arith);
+    found = λ k place there. let none : tree.get R places k ≡ None = ap (lookup (tree.is_at (R k))) empty in
+        let same = sym none ∙ there in absurd (cc);
+  }
 
-pub HasPlaces-more : (old new : BTreeMap ℕ ℕ) (links : List Link) (link : Link) (place : ℕ) → HasPlaces old links → place ≡ length links
-    → tree.Updates nat_cmp old new link.id (Some place) → HasPlaces new (links ++ link ∷ [])
-HasPlaces-more old new links link place has last updates = record {
-  known = λ id any. elim (Any-push_cases (λ l. l.id ≡ id) links link any) [
-    | inl before ↦ elim (cases_Bool (is_eq (nat_cmp link.id id))) [
-      | inl same ↦ rw (updates.0 id, same) refl
-      | inr other ↦ rw (updates.0 id, other) (has.known id before)
-    ]
-    | inr same ↦ rw (updates.0 id, same, tied_itself nat_cmp_total id) refl
-  ];
-  found = λ id at there. by_order id at there (nat_cmp link.id id) refl;
-}
-  where
-    by_order : (id at : ℕ) → tree.get nat_cmp new id ≡ Some at → (o : Ordering) → nat_cmp link.id id ≡ o
-        → (at < length (links ++ link ∷ [])) × ((other : Link) → (get_or (links ++ link ∷ []) at other).id ≡ id)
-    by_order id at there Equal same =
-        let is : Some place ≡ Some at = sym (ap (λ o. cond (is_eq o) (Some place) (tree.get nat_cmp old id)) same) ∙ sym (updates.0 id) ∙ there in
-        let here : at ≡ length links = sym (same_Some place at is) ∙ last in
-        (omega (arith, length_push links link), λ other. rw here (ap (λ l. l.id) (get_or-append_seam links link [] other) ∙ exact_unsigned link.id id same))
-    by_order id at there Less less =
-        let before = has.found id at (sym (ap (λ o. cond (is_eq o) (Some place) (tree.get nat_cmp old id)) less) ∙ sym (updates.0 id) ∙ there) in
-        (omega (arith, length_push links link, before.0), λ other. ap (λ l. l.id) (get_or-append links (link ∷ []) other at before.0) ∙ before.1 other)
-    by_order id at there Greater more =
-        let before = has.found id at (sym (ap (λ o. cond (is_eq o) (Some place) (tree.get nat_cmp old id)) more) ∙ sym (updates.0 id) ∙ there) in
-        (omega (arith, length_push links link, before.0), λ other. ap (λ l. l.id) (get_or-append links (link ∷ []) other at before.0) ∙ before.1 other)
+  -- a key that has a place is used, and one that has none isn't
+  pub key_used : (places : BTreeMap K ℕ) (rows : List X) (k : K) → HasPlacesBy R key places rows → IsSome (tree.get R places k) → Any (λ x. key x ≡ k) rows
+  key_used places rows k has some = at_place (tree.get R places k) refl some rows (λ place there. has.found k place there)
+    where
+      at_place : (o : Option ℕ) → tree.get R places k ≡ o → IsSome o → (xs : List X)
+          → ((place : ℕ) → tree.get R places k ≡ Some place → (place < length xs) × ((x : X) → key (get_or xs place x) ≡ k)) → Any (λ x. key x ≡ k) xs
+      at_place None is none xs found = absurd (false≢true none)
+      at_place (Some place) is there [] found = absurd (omega (arith, (found place is).0))
+      at_place (Some place) is there (x ∷ xs) found = let at = found place is in Any-at (λ y. key y ≡ k) (x ∷ xs) place x at.0 (at.1 x)
+
+  pub key_new : (places : BTreeMap K ℕ) (rows : List X) (k : K) → HasPlacesBy R key places rows → (IsSome (tree.get R places k) → ⊥)
+      → All (λ x. key x ≡ k → ⊥) rows
+  key_new places rows k has none = none-from_not_any (λ x. key x ≡ k) rows (λ used. none (has.known k used))
 
 -- links with one id are one link
 pub same_link : (links : List Link) (a b : Link) → HaveDifferentIds links → Contains links a → Contains links b → a.id ≡ b.id → a ≡ b
@@ -164,19 +134,35 @@ same_link links a b differ (j, within_a, is_a) (k, within_b, is_b) same =
       ]
     ]
 
--- an id that has a place is used
-pub place_used : (places : BTreeMap ℕ ℕ) (links : List Link) (id : ℕ) → HasPlaces places links → IsSome (tree.get nat_cmp places id) → IsLinkId links id
-place_used places links id has some = at_place (tree.get nat_cmp places id) refl some links (λ place there. has.found id place there)
-  where
-    at_place : (o : Option ℕ) → tree.get nat_cmp places id ≡ o → IsSome o → (ls : List Link)
-        → ((place : ℕ) → tree.get nat_cmp places id ≡ Some place → (place < length ls) × ((link : Link) → (get_or ls place link).id ≡ id)) → IsLinkId ls id
-    at_place None is none ls found = absurd (false≢true none)
-    at_place (Some place) is there [] found = absurd (omega (arith, (found place is).0))
-    at_place (Some place) is there (l ∷ ls) found = let at = found place is in Any-at (λ link. link.id ≡ id) (l ∷ ls) place l at.0 (at.1 l)
+module _ {X K : Type 0} (R : K → K → Ordering) (total : IsTotalOrder R) (exact : CmpEqualImpliesEq R) (key : X → K) where
+  pub HasPlacesBy-more : (old new : BTreeMap K ℕ) (rows : List X) (row : X) (place : ℕ) → HasPlacesBy R key old rows → place ≡ length rows
+      → tree.Updates R old new (key row) (Some place) → HasPlacesBy R key new (rows ++ row ∷ [])
+  HasPlacesBy-more old new rows row place has last updates = record {
+    known = λ k any. elim (Any-push_cases (λ x. key x ≡ k) rows row any) [
+      | inl before ↦ elim (cases_Bool (is_eq (R (key row) k))) [
+        | inl same ↦ rw (updates.0 k, same) refl
+        | inr other ↦ rw (updates.0 k, other) (has.known k before)
+      ]
+      | inr same ↦ subst (λ q. IsSome (tree.get R new q)) same (rw (updates.0 (key row), tied_itself total (key row)) refl)
+    ];
+    found = λ k at there. by_order k at there (R (key row) k) refl;
+  }
+    where
+      kept : (k : K) (at : ℕ) → (at < length rows) × ((other : X) → key (get_or rows at other) ≡ k)
+          → (at < length (rows ++ row ∷ [])) × ((other : X) → key (get_or (rows ++ row ∷ []) at other) ≡ k)
+      kept k at before =
+          (omega (arith, length_push rows row, before.0), λ other. ap key (get_or-append rows (row ∷ []) other at before.0) ∙ before.1 other)
 
--- and an id that has none is new
-pub id_new : (places : BTreeMap ℕ ℕ) (links : List Link) (id : ℕ) → HasPlaces places links → (IsSome (tree.get nat_cmp places id) → ⊥) → IsNewId links id
-id_new places links id has none = none-from_not_any (λ link. link.id ≡ id) links (λ used. none (has.known id used))
+      by_order : (k : K) (at : ℕ) → tree.get R new k ≡ Some at → (o : Ordering) → R (key row) k ≡ o
+          → (at < length (rows ++ row ∷ [])) × ((other : X) → key (get_or (rows ++ row ∷ []) at other) ≡ k)
+      by_order k at there Equal same =
+          let is : Some place ≡ Some at = sym (ap (λ o. cond (is_eq o) (Some place) (tree.get R old k)) same) ∙ sym (updates.0 k) ∙ there in
+          let here : at ≡ length rows = sym (same_Some place at is) ∙ last in
+          (omega (arith, length_push rows row), λ other. rw here (ap key (get_or-append_seam rows row [] other) ∙ exact (key row) k same))
+      by_order k at there Less less =
+          kept k at (has.found k at (sym (ap (λ o. cond (is_eq o) (Some place) (tree.get R old k)) less) ∙ sym (updates.0 k) ∙ there))
+      by_order k at there Greater more =
+          kept k at (has.found k at (sym (ap (λ o. cond (is_eq o) (Some place) (tree.get R old k)) more) ∙ sym (updates.0 k) ∙ there))
 
 -- an id that is used isn't new
 pub id_not_new : (links : List Link) (id : ℕ) → IsLinkId links id → IsNewId links id → ⊥

@@ -8,3 +8,4 @@ pub mod RangeLemmas
 pub mod PartLemmas
 pub mod PlanLemmas
 pub mod EndLemmas
+pub mod StartLemmas

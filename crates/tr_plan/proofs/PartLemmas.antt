@@ -9,11 +9,11 @@ use Rattle.toml_fields.specs.Table.{HasSubtable}
 use Rattle.toml_fields.proofs.FirstOff.{first_off-sound, first_off-unique}
 use Rattle.tr_plan.specs.Program.{HasProgram, IsProgramOff, IsProgramOf, IsProgramKeySound, program_looked_at}
 use Rattle.tr_plan.specs.Schedule.{HasSchedules, AreSchedulesOff, IsScheduleOf, IsScheduleOff, IsScheduleKeySound, schedule_looked_at, schedule_number}
-use Rattle.tr_plan.specs.Link.{HasLinks, AreLinksOff, IsLinkOf, IsLinkOff, IsLinkKeySound, link_looked_at, link_number}
+use Rattle.tr_plan.specs.Link.{HasLinks, AreLinksOff, IsLinkOf, IsLinkOff, IsLinkKeySound, link_looked_at, link_number, AreApart, DoOverlap}
 use Rattle.tr_plan.specs.Disregard.{HasDisregards, AreDisregardsOff, IsDisregardOf, IsDisregardOff, IsDisregardKeySound, disregard_looked_at, disregard_number}
 use Rattle.tr_plan.specs.Include.{HasIncludes, AreIncludesOff, IsIncludeOf, IsIncludeOff, IsIncludeKeySound, include_looked_at, include_number}
 use Rattle.tr_plan.specs.Absence.{HasAbsences, AreAbsencesOff, IsAbsenceOf, IsAbsenceOff, IsAbsenceKeySound, absence_looked_at, absence_number}
-use Rattle.tr_plan.specs.Plan.{HasKnownCode, AreApart, DoOverlap}
+use Rattle.tr_plan.specs.Plan.{HasKnownCode}
 use Rattle.tr_plan.specs.Reading.{IsFirstUnknownCode, IsFirstOverlap}
 use Rattle.tr_plan.specs.Rows.{IsRow}
 use Rattle.tr_plan.specs.declared.absence.Absence.{Absence}

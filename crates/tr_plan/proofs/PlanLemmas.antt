@@ -7,7 +7,8 @@ use Rattle.toml_fields.proofs.Found.{IsTomlOf-unique}
 use Rattle.tr_plan.specs.Program.{program_number}
 use Rattle.tr_plan.specs.Include.{HasIncludes, AreIncludesOff}
 use Rattle.tr_plan.specs.Absence.{HasAbsences, AreAbsencesOff}
-use Rattle.tr_plan.specs.Plan.{IsPlan, HasKnownCode, AreApart}
+use Rattle.tr_plan.specs.Link.{AreApart}
+use Rattle.tr_plan.specs.Plan.{IsPlan, HasKnownCode}
 use Rattle.tr_plan.specs.Reading.{IsPlanOf, IsPlanText, IsFaultOf, PlanPart, program_part, schedules_part, links_part, disregards_part, includes_part, absences_part, others_part, codes_part, dates_part, plan_parts, IsPartSound, IsPartOff, IsFirstPartOff, IsFirstFault, IsFirstCause, IsFirstUnknownCode, IsFirstOverlap}
 use Rattle.tr_plan.specs.declared.fault.PlanFault.{PlanFault}
 use Rattle.tr_plan.specs.declared.fault.PlanFault.TheVariants.{PlanText, PlanField, UnknownCode, Overlap, OutOfMemory}

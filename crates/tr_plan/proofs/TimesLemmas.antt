@@ -1,5 +1,5 @@
 -- Laws of the times of a schedule.
-use Rattle.std.proofs.Common.{◌≡◌, ℕ, ◌+◌, ◌<◌, ◌≤◌, List, [], ◌∷◌, ◌++◌, length, get_or, take, map, All, Option, Some, None, IsSome, ◌^◌, refl, sym, ap, ◌∙◌, subst, arith}
+use Rattle.std.proofs.Common.{◌≡◌, ℕ, ◌+◌, ◌<◌, ◌≤◌, List, [], ◌∷◌, ◌++◌, length, get_or, take, map, All, Option, Some, None, IsSome, refl, sym, ap, ◌∙◌, subst, arith}
 use Rattle.std.specs.Prelude.{IfSome}
 use Rattle.std.proofs.lemmas.Bool.{false≢true}
 use Rattle.std.proofs.lemmas.List.{length_push, length-map, map-append, map_more, get_or-map, take_all}
@@ -11,6 +11,7 @@ use Rattle.toml.specs.View.{view, items_of}
 use Rattle.toml.specs.declared.value.Value.{Value}
 use Rattle.toml_fields.specs.Answering.{Finds}
 use Rattle.toml_fields.specs.Table.{HasArray}
+use Rattle.tr_plan.specs.Rows.{most_rows}
 use Rattle.tr_plan.specs.Schedule.{HasTimes, IsTimesCount, time_text}
 use Rattle.tr_plan.proofs.RowLemmas.{items_of-injective}
 
@@ -83,7 +84,7 @@ text_same found text minute there is = same_Some text (hours_text minute) (there
 -- the minutes of all values are the times that the array says
 pub times_made : (ms : Members) (key : List ℕ) (values : List Value) (at : ℕ) (minutes : List ℕ) (result : Option (List ℕ))
     → HasArray ms key (items_of (map view values)) → AreTimesOf values at minutes → IsTimesCount (length values) → length values ≤ at
-    → (length minutes < 2 ^ 32 → IsSome result) → IfSome result (λ made. made ≡ minutes) → Finds (HasTimes ms key) result
+    → (length minutes ≤ most_rows → IsSome result) → IfSome result (λ made. made ≡ minutes) → Finds (HasTimes ms key) result
 times_made ms key values at minutes (Some made) there are count all room is =
     let whole : map time_text minutes ≡ map view values = are.same ∙ ap (map view) (take_all at values all) in
     let long : length values ≡ length minutes = sym (length-map values view) ∙ sym (ap length whole) ∙ length-map minutes time_text in

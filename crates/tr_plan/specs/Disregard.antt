@@ -1,6 +1,6 @@
 -- The tables `disregard` of a plan file: clockings that don't count, each with its reason (records 05 with mark D of an
 -- AEJ, Portaria MTP 671/2021, annex VI). The format is this project's own.
-use Rattle.std.specs.Prelude.{◌≢◌, ◌≤◌, ℕ, List, [], ◌∷◌, ◌++◌, codes, map, All}
+use Rattle.std.specs.Prelude.{◌≡◌, ◌≢◌, ◌<◌, ◌≤◌, ℕ, List, [], ◌∷◌, ◌++◌, length, slice_index_or, codes, map, All}
 use Rattle.toml.specs.Data.{Data, Members}
 use Rattle.toml_fields.specs.Table.{HasOnly}
 use Rattle.toml_fields.specs.Fields.{HasNumber}
@@ -63,6 +63,11 @@ HasDisregards members disregards = HasTable IsDisregardOf members (codes "disreg
 abbrev pub AreDisregardsOff : Members → ℕ → ℕ → Type 0
 AreDisregardsOff members place number =
     IsTableOff disregard_number IsDisregardOf IsDisregardOff members (codes "disregard") place number
+
+-- the disregard at the place names the number
+pub record IsDropOf (disregards : List Disregard) (nsr place : ℕ) : Type 0 where
+  pub within : place < length disregards
+  pub names : (disregard : Disregard) → (slice_index_or disregards place disregard).nsr ≡ nsr
 
 -- a disregard that its reader can give
 pub record IsDisregard (disregard : Disregard) : Type 0 where

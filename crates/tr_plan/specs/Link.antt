@@ -1,6 +1,6 @@
 -- The tables `link` of a plan file: who works under which hours, from which day to which (records 03, 04 and 06 of an
 -- AEJ, Portaria MTP 671/2021, annex VI). The format is this project's own.
-use Rattle.std.specs.Prelude.{◌≢◌, ◌≤◌, ◌-◌, ◌/◌, ℕ, ℤ, pos, List, [], ◌∷◌, ◌++◌, codes, map, All}
+use Rattle.std.specs.Prelude.{◌≡◌, ◌≢◌, ◌<◌, ◌≤◌, ◌-◌, ◌/◌, ℕ, ℤ, pos, List, [], ◌∷◌, ◌++◌, length, slice_index_or, codes, map, All}
 use Rattle.rep_fields.specs.Calendar.{IsDay, last_day}
 use Rattle.rep_fields.specs.Moment.{Moment, IsMinuteOfDay, minutes_of_day}
 use Rattle.rep_fields.specs.Identity.{IsCpf}
@@ -134,6 +134,12 @@ pub record IsInDates (link : Link) (day : ℕ) : Type 0 where
   pub since : link.since ≤ day
   pub until : day ≤ link.until
 
+-- the link at the place is the CPF's one that is in force on the day
+pub record IsOn (links : List Link) (cpf day place : ℕ) : Type 0 where
+  pub within : place < length links
+  pub person : (link : Link) → (slice_index_or links place link).cpf ≡ cpf
+  pub in_dates : (link : Link) → IsInDates (slice_index_or links place link) day
+
 -- the last day isn't before the first one
 abbrev pub BeginsFirst : Link → Type 0
 BeginsFirst link = link.since ≤ link.until
@@ -142,6 +148,13 @@ BeginsFirst link = link.since ≤ link.until
 pub record HaveCommonDay (link other : Link) : Type 0 where
   pub begins : link.since ≤ other.until
   pub ends : other.since ≤ link.until
+
+-- both links hold for one person on some day
+abbrev pub DoOverlap : Link → Link → Type 0
+DoOverlap earlier link = (earlier.cpf ≡ link.cpf) × HaveCommonDay earlier link
+
+abbrev pub AreApart : Link → Link → Type 0
+AreApart earlier link = DoOverlap earlier link → ⊥
 
 -- a link that its reader can give
 pub record IsLink (link : Link) : Type 0 where

@@ -3,7 +3,7 @@
 use Rattle.std.specs.Prelude.{◌≡◌, ◌≢◌, List, All, Any, AllPairs}
 use Rattle.tr_plan.specs.Program.{IsProgram}
 use Rattle.tr_plan.specs.Schedule.{IsSchedule}
-use Rattle.tr_plan.specs.Link.{IsLink, HaveCommonDay}
+use Rattle.tr_plan.specs.Link.{IsLink, AreApart}
 use Rattle.tr_plan.specs.Disregard.{IsDisregard}
 use Rattle.tr_plan.specs.Include.{IsInclude}
 use Rattle.tr_plan.specs.Absence.{IsAbsence}
@@ -18,13 +18,6 @@ HasKnownCode schedules link = Any (λ schedule. schedule.code ≡ link.schedule)
 -- no id stands for two links
 abbrev pub HaveDifferentIds : List Link → Type 0
 HaveDifferentIds links = AllPairs (λ earlier link. earlier.id ≢ link.id) links
-
--- both links hold for one person on some day
-abbrev pub DoOverlap : Link → Link → Type 0
-DoOverlap earlier link = (earlier.cpf ≡ link.cpf) × HaveCommonDay earlier link
-
-abbrev pub AreApart : Link → Link → Type 0
-AreApart earlier link = DoOverlap earlier link → ⊥
 
 -- a plan that its reader can give
 pub record IsPlan (plan : Plan) : Type 0 where

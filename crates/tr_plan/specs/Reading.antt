@@ -5,11 +5,11 @@ use Rattle.toml.specs.Data.{Members}
 use Rattle.toml_fields.specs.Table.{IsTomlOf, HasOnly}
 use Rattle.tr_plan.specs.Program.{HasProgram, IsProgramOff, program_number}
 use Rattle.tr_plan.specs.Schedule.{HasSchedules, AreSchedulesOff}
-use Rattle.tr_plan.specs.Link.{HasLinks, AreLinksOff}
+use Rattle.tr_plan.specs.Link.{HasLinks, AreLinksOff, AreApart, DoOverlap}
 use Rattle.tr_plan.specs.Disregard.{HasDisregards, AreDisregardsOff}
 use Rattle.tr_plan.specs.Include.{HasIncludes, AreIncludesOff}
 use Rattle.tr_plan.specs.Absence.{HasAbsences, AreAbsencesOff}
-use Rattle.tr_plan.specs.Plan.{HasKnownCode, AreApart, DoOverlap}
+use Rattle.tr_plan.specs.Plan.{HasKnownCode}
 use Rattle.tr_plan.specs.declared.absence.Absence.{Absence}
 use Rattle.tr_plan.specs.declared.disregard.Disregard.{Disregard}
 use Rattle.tr_plan.specs.declared.fault.PlanFault.{PlanFault}

@@ -5,6 +5,10 @@ use Rattle.toml.specs.View.{items_of}
 use Rattle.toml_fields.specs.Answering.{IsFirstOff}
 use Rattle.toml_fields.specs.Table.{IsMissing, HasArray}
 
+-- the most rows of a list
+abbrev pub most_rows : ℕ
+most_rows = 268435456
+
 -- the rows that stand at the key: an array, and none where the key is missing
 abbrev pub HasRows : Members → List ℕ → List Data → Type 0
 HasRows members key rows =

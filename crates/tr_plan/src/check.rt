@@ -1,8 +1,8 @@
 //! The rules across the rows of a plan.
 ghost use Rattle.std.specs.Prelude.{◌≡◌, ◌<◌, ◌^◌, List, All, Any, AllPairs, IfOk, IfSome, IfNone, IsTrue, IsFalse, length};
 ghost use Rattle.tr_plan.specs.Index.{HasCodes, HasEnds};
-ghost use Rattle.tr_plan.specs.Link.{BeginsFirst};
-ghost use Rattle.tr_plan.specs.Plan.{HasKnownCode, AreApart, DoOverlap};
+ghost use Rattle.tr_plan.specs.Link.{BeginsFirst, AreApart, DoOverlap};
+ghost use Rattle.tr_plan.specs.Plan.{HasKnownCode};
 ghost use Rattle.tr_plan.specs.Reading.{IsFirstUnknownCode, IsFirstOverlap};
 ghost use Rattle.tr_plan.specs.declared.link.Link.{Link};
 ghost use Rattle.tr_plan.specs.declared.schedule.Schedule.{Schedule};

@@ -12,7 +12,7 @@ use crate::fields::plain_text_at;
 use crate::table::rows_at;
 use rep_fields::Text;
 use std::alloc::Global;
-use std::collections::BTreeSet;
+use std::collections::BTreeMap;
 use toml::{Table, Value};
 use toml_fields::{has_only, number_at};
 
@@ -55,9 +55,17 @@ impl DisregardKey {
     }
 }
 
+/// The disregards of a plan, and the place of each by its number.
+#[derive(Drop)]
+pub(crate) struct DisregardTable {
+    pub disregards: Vec<Disregard>,
+    pub places: BTreeMap<u32, u32>,
+}
+
 /// The disregards that the tables say, or the first fault.
-pub(crate) fn disregards_of(alloc: Global, table: &Table) -> Result<Vec<Disregard>, PlanFault>
-    ensures ok { IfOk result (λ v. HasDisregards (table_view table.now) v.items) }
+pub(crate) fn disregards_of(alloc: Global, table: &Table) -> Result<DisregardTable, PlanFault>
+    ensures ok { IfOk result (λ t. HasDisregards (table_view table.now) t.disregards.items) }
+    ensures places { IfOk result (λ t. HasNsrs t.places t.disregards.items) }
     ensures off { IfErr result (IsCause (table_view table.now) disregards_part) }
 {
     let Some(rows) = rows_at(table, TABLE) else {
@@ -68,12 +76,12 @@ pub(crate) fn disregards_of(alloc: Global, table: &Table) -> Result<Vec<Disregar
         });
     };
     let mut disregards = Vec::new(alloc);
-    let mut nsrs = BTreeSet::new(alloc);
+    let mut places = BTreeMap::new(alloc);
     for (i, value) in rows.iter().enumerate() {
         let Ok(place) = u32::try_from(i + 1) else {
             return Err(PlanFault::OutOfMemory);
         };
-        let disregard = match disregard_of(value, &nsrs) {
+        let disregard = match disregard_of(value, &places) {
             Ok(disregard) => disregard,
             Err(key) => return Err(PlanFault::PlanField {
                 table: NUMBER,
@@ -81,21 +89,21 @@ pub(crate) fn disregards_of(alloc: Global, table: &Table) -> Result<Vec<Disregar
                 key: key.number(),
             }),
         };
-        let Ok(_) = nsrs.insert(disregard.nsr) else {
+        let Ok(_) = places.insert(disregard.nsr, place - 1) else {
             return Err(PlanFault::OutOfMemory);
         };
         let Ok(_) = disregards.push(disregard) else {
             return Err(PlanFault::OutOfMemory);
         };
     }
-    Ok(disregards)
+    Ok(DisregardTable { disregards, places })
 }
 
-// The disregard that a row says, behind those whose numbers are used.
-fn disregard_of(value: &Value, nsrs: &BTreeSet<u32>) -> Result<Disregard, DisregardKey>
-    ensures ok { IfOk result (λ disregard. (earlier : List Disregard) → HasNsrs nsrs.now earlier
+// The disregard that a row says, behind those whose places are known.
+fn disregard_of(value: &Value, places: &BTreeMap<u32, u32>) -> Result<Disregard, DisregardKey>
+    ensures ok { IfOk result (λ disregard. (earlier : List Disregard) → HasNsrs places.now earlier
         → IsRow (IsDisregardOf earlier) (view value.now) disregard) }
-    ensures off { IfErr result (λ key. (earlier : List Disregard) → HasNsrs nsrs.now earlier
+    ensures off { IfErr result (λ key. (earlier : List Disregard) → HasNsrs places.now earlier
         → IsDisregardOff earlier (view value.now) key) }
 {
     let Some(row) = value.as_table() else {
@@ -104,7 +112,7 @@ fn disregard_of(value: &Value, nsrs: &BTreeSet<u32>) -> Result<Disregard, Disreg
     let Some(nsr) = number_at(row, "nsr", 1, GREATEST_NSR) else {
         return Err(DisregardKey::Nsr);
     };
-    if nsrs.contains(&nsr) {
+    if places.contains_key(&nsr) {
         return Err(DisregardKey::Nsr);
     }
     let Some(reason) = plain_text_at(row, "reason", 1) else {

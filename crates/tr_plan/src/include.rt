@@ -4,7 +4,6 @@ ghost use Rattle.toml.specs.View.{view, table_view};
 ghost use Rattle.toml_fields.specs.Answering.{Finds, IsFirstOff};
 ghost use Rattle.tr_plan.specs.Include.{HasIncludes, IsIncludeOf, IsIncludeOff, IsIncludeKeySound, SaysLink, SaysSource, include_number, include_looked_at};
 ghost use Rattle.tr_plan.specs.Index.{HasPlaces};
-ghost use Rattle.tr_plan.specs.Link.{journey_day, IsInDates};
 ghost use Rattle.tr_plan.specs.Plan.{HaveDifferentIds};
 ghost use Rattle.tr_plan.specs.Reading.{IsIncludeCause};
 ghost use Rattle.tr_plan.specs.Rows.{IsRow};
@@ -13,7 +12,7 @@ use crate::fault::PlanFault;
 use crate::fields::{plain_text_or_empty, stamp_at};
 use crate::link::{GREATEST_ID, Link, LinkTable};
 use crate::table::rows_at;
-use rep_fields::{MINUTES_OF_DAY, Stamp, Text};
+use rep_fields::{Stamp, Text};
 use std::alloc::Global;
 use toml::{Table, Value};
 use toml_fields::{has_only, is_missing, number_at, str_at};
@@ -119,7 +118,7 @@ fn include_of(value: &Value, links: &LinkTable) -> Result<Include, IncludeKey>
     let Some(at) = stamp_at(row, "at") else {
         return Err(IncludeKey::At);
     };
-    if !is_in_force(link, &at) {
+    if !link.is_in_force(link.journey_day(&at)) {
         return Err(IncludeKey::At);
     }
     let Some(source) = source_at(row) else {
@@ -156,14 +155,6 @@ pub(crate) fn link_at<'a>(row: &Table, links: &'a LinkTable) -> Option<&'a Link>
         return None;
     };
     Some(&links.links[*place as usize])
-}
-
-// Whether the mark's day lies in the dates of the link.
-fn is_in_force(link: &Link, at: &Stamp) -> bool
-    ensures { IsTrue result ↔ IsInDates link.now (journey_day link.now at.now) }
-{
-    let day = at.local.saturating_sub(link.turn) / MINUTES_OF_DAY;
-    link.since.number <= day && day <= link.until.number
 }
 
 // The letter of the source, `I` where the key is missing.

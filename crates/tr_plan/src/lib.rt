@@ -6,10 +6,12 @@
 mod absence;
 mod check;
 mod disregard;
+mod disregards;
 mod fault;
 mod fields;
 mod include;
 mod link;
+mod links;
 mod plan;
 mod program;
 mod rows;
@@ -18,10 +20,12 @@ mod table;
 
 pub use absence::Absence;
 pub use disregard::Disregard;
+pub use disregards::Disregards;
 pub use fault::PlanFault;
 pub use include::Include;
 pub use link::Link;
-pub use plan::{Absences, Disregards, Includes, Links, Plan, Schedules};
+pub use links::Links;
+pub use plan::{Absences, Includes, Plan, Schedules};
 pub use program::Program;
 pub use rows::Rows;
 pub use schedule::{Hours, Schedule};

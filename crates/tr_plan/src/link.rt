@@ -1,9 +1,9 @@
 //! The tables `link`.
-ghost use Rattle.std.specs.Prelude.{◌≡◌, ◌<◌, ◌^◌, List, length, IfOk, IfErr};
+ghost use Rattle.std.specs.Prelude.{◌≡◌, ◌↔◌, ◌<◌, ◌^◌, List, length, IfOk, IfErr, IsTrue};
 ghost use Rattle.toml.specs.View.{view, table_view};
 ghost use Rattle.toml_fields.specs.Answering.{IsFirstOff};
 ghost use Rattle.tr_plan.specs.Index.{HasPlaces};
-ghost use Rattle.tr_plan.specs.Link.{HasLinks, IsLinkOf, IsLinkOff, IsLinkKeySound, link_number, link_looked_at, person_keys, terms_keys};
+ghost use Rattle.tr_plan.specs.Link.{HasLinks, IsLinkOf, IsLinkOff, IsLinkKeySound, IsInDates, journey_day, link_number, link_looked_at, person_keys, terms_keys};
 ghost use Rattle.tr_plan.specs.LinkParts.{IsPersonOf, AreTermsOf};
 ghost use Rattle.tr_plan.specs.Plan.{HaveDifferentIds};
 ghost use Rattle.tr_plan.specs.Reading.{IsCause, links_part};
@@ -15,7 +15,7 @@ use crate::fields::{
     day_at, day_or, integer_or_zero, plain_text_at, plain_text_or_empty, time_or_midnight,
 };
 use crate::table::rows_at;
-use rep_fields::{Cpf, Day, LAST_DAY, Text};
+use rep_fields::{Cpf, Day, LAST_DAY, MINUTES_OF_DAY, Stamp, Text};
 use std::alloc::Global;
 use std::collections::BTreeMap;
 use toml::{Table, Value};
@@ -53,6 +53,24 @@ pub struct Link {
     pub esocial: Text<30>,
     /// The minutes of the hour bank before the period.
     pub opening: i64,
+}
+
+impl Link {
+    /// The day on which a mark counts under the link: that of its minute less the link's turn, never before 1970-01-01.
+    pub fn journey_day(&self, at: &Stamp) -> Day
+        ensures { result ≡ journey_day self.now at.now }
+    {
+        Day {
+            number: at.local.saturating_sub(self.turn) / MINUTES_OF_DAY,
+        }
+    }
+
+    /// Whether the day lies in the link's dates.
+    pub fn is_in_force(&self, day: Day) -> bool
+        ensures { IsTrue result ↔ IsInDates self.now day }
+    {
+        self.since.number <= day.number && day.number <= self.until.number
+    }
 }
 
 /// A key of a row, in the order of their numbers.

@@ -9,10 +9,12 @@ ghost use Rattle.tr_plan.specs.declared.plan.Plan.{Plan};
 
 use crate::absence::{Absence, absences_of};
 use crate::check::{overlap, unknown_code};
-use crate::disregard::{Disregard, disregards_of};
+use crate::disregard::disregards_of;
+use crate::disregards::{Disregards, disregards_from};
 use crate::fault::PlanFault;
 use crate::include::{Include, includes_of};
-use crate::link::{Link, links_of};
+use crate::link::links_of;
+use crate::links::{Links, links_from};
 use crate::program::{Program, program_of};
 use crate::rows::{Rows, rows_of};
 use crate::schedule::{Schedule, schedules_of};
@@ -31,12 +33,6 @@ const TABLES: [&str; 6] = [
 
 /// Working hours in the order of the file.
 pub type Schedules = Rows<Schedule>;
-
-/// Links in the order of the file.
-pub type Links = Rows<Link>;
-
-/// Disregarded clockings in the order of the file.
-pub type Disregards = Rows<Disregard>;
 
 /// Included marks in the order of the file.
 pub type Includes = Rows<Include>;
@@ -130,8 +126,8 @@ fn plan_of(alloc: Global, table: &Table) -> Result<Plan, PlanFault>
     Ok(Plan {
         program,
         schedules: rows_of(schedules.schedules)?,
-        links: rows_of(links.links)?,
-        disregards: rows_of(disregards)?,
+        links: links_from(alloc, links.links)?,
+        disregards: disregards_from(disregards)?,
         includes: rows_of(includes)?,
         absences: rows_of(absences)?,
     })

@@ -1,18 +1,23 @@
 //! Lists of rows.
-ghost use Rattle.std.specs.Prelude.{◌≡◌, ◌↔◌, ◌<◌, ◌^◌, length, slice_index_or, IfOk, IfErr, IfSome, IsSome, IsTrue, []};
+ghost use Rattle.std.specs.Prelude.{◌≡◌, ◌↔◌, ◌<◌, ◌≤◌, length, slice_index_or, IfOk, IfErr, IfSome, IsSome, IsTrue, []};
+ghost use Rattle.tr_plan.specs.Rows.{most_rows};
 ghost use Rattle.tr_plan.specs.declared.fault.PlanFault.{PlanFault};
 
 use crate::fault::PlanFault;
 use std::marker::Model;
 
-/// Rows in their order, of at most 4,294,967,295.
+// The most rows of a list, so that each count of an AEJ's lines fits its nine digits.
+pub(crate) const MOST_ROWS: usize = 268_435_456;
+
+/// Rows in their order, of at most 268,435,456.
 #[derive(Debug, Drop)]
 pub struct Rows<T> {
     rows: Vec<T>,
 }
 
 impl<T> Model for Rows<T> {
-    ghost use Rattle.std.specs.Prelude.{List, length, ◌<◌, ◌^◌};
+    ghost use Rattle.std.specs.Prelude.{List, length, ◌≤◌};
+    ghost use Rattle.tr_plan.specs.Rows.{most_rows};
     ghost use Rattle.std.specs.Coded.{coded_list};
 
     ghost Value = { List T };
@@ -21,16 +26,16 @@ impl<T> Model for Rows<T> {
 
     ghost view = { λ r. r.rows.items };
 
-    ghost invariant = { λ r. length r.rows.items < 2 ^ 32 };
+    ghost invariant = { λ r. length r.rows.items ≤ most_rows };
 }
 
 impl<T: Drop> Rows<T> {
     /// These rows. `None` exactly where there are too many.
     pub fn make(rows: Vec<T>) -> Option<Rows<T>>
-        ensures succeeds { IsSome result ↔ (length rows.items < 2 ^ 32) }
+        ensures succeeds { IsSome result ↔ (length rows.items ≤ most_rows) }
         ensures value { IfSome result (λ made. made ≡ rows.items) }
     {
-        if rows.len() > u32::MAX as usize {
+        if rows.len() > MOST_ROWS {
             return None;
         }
         Some(Rows { rows })
@@ -45,9 +50,17 @@ impl<T> Rows<T> {
         self.rows
     }
 
-    /// How many rows there are.
+    /// The rows as a slice.
+    pub fn as_slice(&self) -> &[T]
+        ensures { result.now ≡ self.now }
+    {
+        &self.rows
+    }
+
+    /// How many rows there are: at most 268,435,456.
     pub fn len(&self) -> u32
-        ensures { result ≡ length self.now }
+        ensures count { result ≡ length self.now }
+        ensures in_range { result ≤ most_rows }
     {
         self.rows.len() as u32
     }

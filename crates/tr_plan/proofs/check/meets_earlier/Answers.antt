@@ -12,7 +12,7 @@ returns-then-begin-link-clause-met c = λ less earlier has.
     let ends = c.args.ends.now in
     let link = c.args.link.now in
     let range = subst (λ (l : Link). IsRangeOf day_cmp Unbounded (Included (l.cpf, l.until)) ends c.range.result) c.link.view_is (c.range.ensures.in_range tt) in
-    let latest = latest_of ends link c.range.result c.next_back.new.self (c.in-Some.begin.now, c.in-Some.until.now) range c.in-Some.ensures.steps in
+    let latest = latest_of ends (link.cpf, link.until) c.range.result c.next_back.new.self (c.in-Some.begin.now, c.in-Some.until.now) range c.in-Some.ensures.steps in
     let cpf = ap (λ (l : Link). l.cpf) c.link.view_is in
     let since = ap (λ (l : Link). l.since) c.link.view_is in
     meets_latest ends earlier link (c.in-Some.begin.now, c.in-Some.until.now) has latest (grind (arith, c.if-begin-link.true, cpf)) (grind (arith, less, since))
@@ -23,7 +23,7 @@ returns-then-begin-link-clause-apart c = λ more earlier has firsts apart.
     let ends = c.args.ends.now in
     let link = c.args.link.now in
     let range = subst (λ (l : Link). IsRangeOf day_cmp Unbounded (Included (l.cpf, l.until)) ends c.range.result) c.link.view_is (c.range.ensures.in_range tt) in
-    let latest = latest_of ends link c.range.result c.next_back.new.self (c.in-Some.begin.now, c.in-Some.until.now) range c.in-Some.ensures.steps in
+    let latest = latest_of ends (link.cpf, link.until) c.range.result c.next_back.new.self (c.in-Some.begin.now, c.in-Some.until.now) range c.in-Some.ensures.steps in
     let since = ap (λ (l : Link). l.since) c.link.view_is in
     behind_latest ends earlier link (c.in-Some.begin.now, c.in-Some.until.now) has firsts apart latest (λ _. grind (arith, more, since))
 
@@ -33,7 +33,7 @@ returns-else-begin-link-clause-apart c = λ _ earlier has firsts apart.
     let ends = c.args.ends.now in
     let link = c.args.link.now in
     let range = subst (λ (l : Link). IsRangeOf day_cmp Unbounded (Included (l.cpf, l.until)) ends c.range.result) c.link.view_is (c.range.ensures.in_range tt) in
-    let latest = latest_of ends link c.range.result c.next_back.new.self (c.in-Some.begin.now, c.in-Some.until.now) range c.in-Some.ensures.steps in
+    let latest = latest_of ends (link.cpf, link.until) c.range.result c.next_back.new.self (c.in-Some.begin.now, c.in-Some.until.now) range c.in-Some.ensures.steps in
     let cpf = ap (λ (l : Link). l.cpf) c.link.view_is in
     behind_latest ends earlier link (c.in-Some.begin.now, c.in-Some.until.now) has firsts apart latest
     (λ same. absurd (grind (arith, c.if-begin-link.false, cpf, same)))

@@ -5,8 +5,7 @@ use Rattle.std.proofs.lemmas.List.{get_or_default, take_more}
 use Rattle.std.proofs.lemmas.List.Elements.{All-take}
 use Rattle.std.proofs.lemmas.List.Quantifiers.{all_pairs_push}
 use Rattle.tr_plan.specs.Index.{HasEnds, day_cmp}
-use Rattle.tr_plan.specs.Link.{BeginsFirst}
-use Rattle.tr_plan.specs.Plan.{AreApart, DoOverlap}
+use Rattle.tr_plan.specs.Link.{BeginsFirst, AreApart, DoOverlap}
 use Rattle.tr_plan.specs.declared.link.Link.{Link}
 use Rattle.tr_plan.proofs.EndLemmas.{HasEnds-more}
 use Rattle.tr_plan.proofs.check.overlap.Goals as goal

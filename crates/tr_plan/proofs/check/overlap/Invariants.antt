@@ -1,7 +1,7 @@
 use Rattle.std.proofs.Common.{take}
 use Rattle.std.specs.Prelude.{AllPairs}
 use Rattle.tr_plan.specs.Index.{HasEnds}
-use Rattle.tr_plan.specs.Plan.{AreApart}
+use Rattle.tr_plan.specs.Link.{AreApart}
 use Rattle.tr_plan.proofs.check.overlap.Given as goal
 
 abbrev pub invariant-loop-link : goal.invariant-loop-link

@@ -4,7 +4,7 @@ use Rattle.toml.specs.View.{view, table_view}
 use Rattle.tr_plan.specs.Include.{IsInForce, IsReasonFor, include_key_text}
 use Rattle.rep_fields.specs.Moment.{Moment}
 use Rattle.toml_fields.proofs.Found.{HasNumber-unique}
-use Rattle.tr_plan.specs.Link.{greatest_id}
+use Rattle.tr_plan.specs.Link.{greatest_id, IsInDates}
 use Rattle.tr_plan.specs.declared.include.IncludeKey.TheVariants.{LinkKey, At, Source, Reason}
 use Rattle.tr_plan.proofs.RowLemmas.{table_found}
 use Rattle.tr_plan.proofs.ValueLemmas.{HasStamp-unique, PlainOr-unique}
@@ -53,8 +53,9 @@ returns-then-not-is_in_force-clause-off c =
               HasNumber-unique 1 greatest_id 1 greatest_id row (include_key_text LinkKey) sound.0 link.id sound.2.0 c.in-Some-link_at.ensures.found.0 in
               let moment : sound.1 ≡ at = HasStamp-unique row (include_key_text At) sound.1 at sound.3.0 c.in-Some-stamp_at.ensures in
               false≢true (sym c.if-not-is_in_force.true ∙ c.is_in_force.ensures.1
+              (subst (λ n. IsInDates link n) (sym c.journey_day.ensures)
               (dates_in_force links link sound.0 at c.requires.differ c.in-Some-link_at.ensures.member id
-              (subst (λ (m : Moment). IsInForce links sound.0 m) moment sound.3.1))),
+              (subst (λ (m : Moment). IsInForce links sound.0 m) moment sound.3.1)))),
           refl,
         ),
       ),
@@ -66,7 +67,7 @@ returns-in_default-source_at-clause-off c =
     let links = c.args.links.now.links.items in
     let link = c.in-Some-link_at.link.now in
     let at = c.in-Some-stamp_at.at in
-    let force = in_force links link at c.in-Some-link_at.ensures.member (c.is_in_force.ensures.0 c.if-not-is_in_force.false) in
+    let force = in_force links link at c.in-Some-link_at.ensures.member (subst (λ n. IsInDates link n) c.journey_day.ensures (c.is_in_force.ensures.0 c.if-not-is_in_force.false)) in
     inl (
       row,
       table_found (view c.args.value.now) row c.in-Some.ensures,
@@ -85,7 +86,7 @@ returns-in_default-plain_text_or_empty-clause-off c =
     let links = c.args.links.now.links.items in
     let link = c.in-Some-link_at.link.now in
     let at = c.in-Some-stamp_at.at in
-    let force = in_force links link at c.in-Some-link_at.ensures.member (c.is_in_force.ensures.0 c.if-not-is_in_force.false) in
+    let force = in_force links link at c.in-Some-link_at.ensures.member (subst (λ n. IsInDates link n) c.journey_day.ensures (c.is_in_force.ensures.0 c.if-not-is_in_force.false)) in
     inl (
       row,
       table_found (view c.args.value.now) row c.in-Some.ensures,
@@ -106,7 +107,7 @@ returns-then-is_empty-clause-off c =
     let at = c.in-Some-stamp_at.at in
     let source = c.in-Some-source_at.source in
     let reason = c.in-Some-plain_text_or_empty.reason in
-    let force = in_force links link at c.in-Some-link_at.ensures.member (c.is_in_force.ensures.0 c.if-not-is_in_force.false) in
+    let force = in_force links link at c.in-Some-link_at.ensures.member (subst (λ n. IsInDates link n) c.journey_day.ensures (c.is_in_force.ensures.0 c.if-not-is_in_force.false)) in
     inl (
       row,
       table_found (view c.args.value.now) row c.in-Some.ensures,
@@ -136,7 +137,7 @@ returns-then-not-has_only-clause-off c =
     let at = c.in-Some-stamp_at.at in
     let source = c.in-Some-source_at.source in
     let reason = c.in-Some-plain_text_or_empty.reason in
-    let force = in_force links link at c.in-Some-link_at.ensures.member (c.is_in_force.ensures.0 c.if-not-is_in_force.false) in
+    let force = in_force links link at c.in-Some-link_at.ensures.member (subst (λ n. IsInDates link n) c.journey_day.ensures (c.is_in_force.ensures.0 c.if-not-is_in_force.false)) in
     let needed : IsReasonFor source reason =
     elim c.else-source-eq-INCLUDED.branch [
       | else-source-eq-INCLUDED-via-then-source-eq-INCLUDED+else-is_empty w ↦
@@ -169,7 +170,7 @@ returns-clause-ok c =
     let at = c.in-Some-stamp_at.at in
     let source = c.in-Some-source_at.source in
     let reason = c.in-Some-plain_text_or_empty.reason in
-    let force = in_force links link at c.in-Some-link_at.ensures.member (c.is_in_force.ensures.0 c.if-not-is_in_force.false) in
+    let force = in_force links link at c.in-Some-link_at.ensures.member (subst (λ n. IsInDates link n) c.journey_day.ensures (c.is_in_force.ensures.0 c.if-not-is_in_force.false)) in
     let needed : IsReasonFor source reason =
     elim c.else-source-eq-INCLUDED.branch [
       | else-source-eq-INCLUDED-via-then-source-eq-INCLUDED+else-is_empty w ↦

@@ -1,11 +1,14 @@
 use Rattle.std.proofs.Common.{◌≡◌, ◌≢◌, List, length, ◌+◌, ◌-◌, codes, inr, refl, sym, subst, arith}
+use Rattle.std.specs.Ordering.{nat_cmp}
+use Rattle.std.proofs.lemmas.Cmp.{nat_cmp_total}
+use Rattle.std.proofs.lemmas.Map.Lookups.{exact_unsigned}
 use Rattle.std.proofs.lemmas.List.Quantifiers.{all_pairs_push}
 use Rattle.toml.specs.View.{table_view}
 use Rattle.tr_plan.specs.Index.{HasPlaces}
 use Rattle.tr_plan.specs.Link.{IsLinkOf, IsLinkOff, link_number}
 use Rattle.tr_plan.specs.Plan.{HaveDifferentIds}
 use Rattle.tr_plan.specs.declared.link.Link.{Link}
-use Rattle.tr_plan.proofs.IndexLemmas.{HasPlaces-more}
+use Rattle.tr_plan.proofs.IndexLemmas.{HasPlacesBy-more}
 use Rattle.tr_plan.proofs.LoopLemmas.{AreSaid, AreSaid-more, AreSaid-length, table_row_off}
 use Rattle.tr_plan.proofs.link.links_of.Goals as goal
 
@@ -33,7 +36,7 @@ loop-i-preserved c =
       said = subst (λ (vs : List Link). AreSaid IsLinkOf c.in-Some.rows.now (c.loop-i.i + 1) vs) more
           (AreSaid-more IsLinkOf c.in-Some.rows.now c.loop-i.i values c.index-rows-i.result link c.loop-i.invariant.said c.loop-i-test.true c.index-rows-i.is row);
       places = subst (λ (vs : List Link). HasPlaces c.insert.new.self vs) more
-          (HasPlaces-more c.loop-i.places c.insert.new.self values link (c.in-Ok.place - 1) c.loop-i.invariant.places last c.in-Ok-insert.ensures.updates);
+          (HasPlacesBy-more nat_cmp nat_cmp_total exact_unsigned (λ (l : Link). l.id) c.loop-i.places c.insert.new.self values link (c.in-Ok.place - 1) c.loop-i.invariant.places last c.in-Ok-insert.ensures.updates);
       differ = subst HaveDifferentIds more (all_pairs_push (λ earlier link. earlier.id ≢ link.id) values link c.loop-i.invariant.differ row.2.id.1);
       few = c.in-Ok.ensures.0;
     }

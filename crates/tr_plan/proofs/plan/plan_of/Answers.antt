@@ -2,11 +2,11 @@ use Rattle.std.proofs.Common.{List, All, inl, inr, refl, sym, ap, subst, arith, 
 use Rattle.std.specs.Prelude.{AllPairs, IfSome, IfNone}
 use Rattle.toml.specs.View.{table_view}
 use Rattle.tr_plan.specs.Schedule.{HasSchedules}
-use Rattle.tr_plan.specs.Link.{HasLinks, BeginsFirst}
+use Rattle.tr_plan.specs.Link.{HasLinks, BeginsFirst, AreApart}
 use Rattle.tr_plan.specs.Disregard.{HasDisregards}
 use Rattle.tr_plan.specs.Include.{HasIncludes}
 use Rattle.tr_plan.specs.Absence.{HasAbsences}
-use Rattle.tr_plan.specs.Plan.{HasKnownCode, AreApart}
+use Rattle.tr_plan.specs.Plan.{HasKnownCode}
 use Rattle.tr_plan.specs.Reading.{IsFirstUnknownCode, IsFirstOverlap}
 use Rattle.tr_plan.specs.declared.link.Link.{Link}
 use Rattle.tr_plan.specs.declared.schedule.Schedule.{Schedule}
@@ -36,7 +36,7 @@ returns-in-Some-clause-off c =
         inr (
           (links, c.in_ok-links.ensures.ok),
           inr (
-            (c.in_ok-disregards.disregards.items, c.in_ok-disregards.ensures.ok),
+            (c.in_ok-disregards.disregards.disregards.items, c.in_ok-disregards.ensures.ok),
             inr (
               (links, c.in_ok-includes.includes.items, c.in_ok-links.ensures.ok, c.in_ok-includes.ensures.ok),
               inr (
@@ -64,7 +64,7 @@ returns-in-Some-met-clause-off c =
         inr (
           (links, c.in_ok-links.ensures.ok),
           inr (
-            (c.in_ok-disregards.disregards.items, c.in_ok-disregards.ensures.ok),
+            (c.in_ok-disregards.disregards.disregards.items, c.in_ok-disregards.ensures.ok),
             inr (
               (links, c.in_ok-includes.includes.items, c.in_ok-links.ensures.ok, c.in_ok-includes.ensures.ok),
               inr (
@@ -89,7 +89,7 @@ returns-clause-ok c =
     let schedules = c.in_ok-schedules.schedules.schedules.items in
     let links = c.in_ok-links.links.links.items in
     let same_schedules = sym c.in_ok-rows_of.ensures.ok in
-    let same_links = sym c.in_ok-rows_of-2.ensures.ok in
+    let same_links = sym c.in_ok-links_from.ensures.ok in
     let known = subst (All (HasKnownCode schedules)) c.deref.ensures.value (c.in_default.ensures.none schedules c.in_ok-schedules.ensures.codes) in
     let apart = subst (AllPairs AreApart) c.deref-2.ensures.value
     (subst (λ met. IfNone met (AllPairs AreApart c.deref-2.result.now)) c.in_default-met.is c.in-Ok-overlap.ensures.none) in
@@ -97,13 +97,20 @@ returns-clause-ok c =
       program = c.in-Ok.ensures.ok;
       schedules = subst (HasSchedules ms) same_schedules c.in_ok-schedules.ensures.ok;
       links = subst (HasLinks ms) same_links c.in_ok-links.ensures.ok;
-      disregards = subst (HasDisregards ms) (sym c.in_ok-rows_of-3.ensures.ok) c.in_ok-disregards.ensures.ok;
-      includes = subst (λ (ls : List Link). HasIncludes ls ms c.in_ok-rows_of-4.field-0) same_links
-          (subst (HasIncludes links ms) (sym c.in_ok-rows_of-4.ensures.ok) c.in_ok-includes.ensures.ok);
-      absences = subst (λ (ls : List Link). HasAbsences ls ms c.in_ok-rows_of-5.field-0) same_links
-          (subst (HasAbsences links ms) (sym c.in_ok-rows_of-5.ensures.ok) c.in_ok-absences.ensures.ok);
+      disregards = subst (HasDisregards ms) (sym c.in_ok-disregards_from.ensures.ok) c.in_ok-disregards.ensures.ok;
+      includes = subst (λ (ls : List Link). HasIncludes ls ms c.in_ok-rows_of-2.field-0) same_links
+          (subst (HasIncludes links ms) (sym c.in_ok-rows_of-2.ensures.ok) c.in_ok-includes.ensures.ok);
+      absences = subst (λ (ls : List Link). HasAbsences ls ms c.in_ok-rows_of-3.field-0) same_links
+          (subst (HasAbsences links ms) (sym c.in_ok-rows_of-3.ensures.ok) c.in_ok-absences.ensures.ok);
       known = c.has_only.ensures.0 c.if-not-has_only.false;
-      known_codes = subst (λ (ss : List Schedule). All (HasKnownCode ss) c.in_ok-rows_of-2.field-0) same_schedules
+      known_codes = subst (λ (ss : List Schedule). All (HasKnownCode ss) c.in_ok-links_from.field-0) same_schedules
           (subst (All (HasKnownCode schedules)) same_links known);
       apart = subst (AllPairs AreApart) same_links apart;
     }
+
+pub links_from-requires : goal.links_from-requires
+links_from-requires c = record {
+  in_order = links_begin_first (table_view c.args.table.now) c.in_ok-links.links.links.items c.in_ok-links.ensures.ok;
+  apart = subst (AllPairs AreApart) c.deref-2.ensures.value
+      (subst (λ met. IfNone met (AllPairs AreApart c.deref-2.result.now)) c.in_default-met.is c.in-Ok-overlap.ensures.none);
+}
