@@ -45,7 +45,7 @@ impl<'a> Originals<'a> {
         Ok(Originals { afd, clockings })
     }
 
-    /// Each original once, those of one worker in the order of their lines.
+    /// Each original once, in no order that is promised.
     pub fn clockings(&self) -> &[Clocking]
         ensures { (clockings : List TheClocking) × AreOriginals self.now clockings
             × IsPermutation clockings result.now }
